@@ -1,0 +1,14 @@
+use native.Mathlib.Omega.{arith}
+use Rattle.bintree.proofs.Sizes.{end-bound}
+use Rattle.bintree.proofs.Laws.{level-laws}
+use Rattle.bintree.proofs.Levels.{level-read}
+use Rattle.bintree.proofs.triangle.Triangle.level.Needs as need
+
+pub sub-result : need.sub-result
+sub-result c = level-read (c .args .self .number) (omega arith) (omega (arith, end-bound (c .args .self .order .n) (omega arith))) .0
+
+pub returns : need.returns
+returns c = record {
+  value = level-read (c .args .self .number) (omega arith) (omega (arith, end-bound (c .args .self .order .n) (omega arith))) .1;
+  laws = level-laws (c .args .self .number) (omega arith);
+}
