@@ -1,6 +1,6 @@
 -- The neighbours of a triangle on its own level, by recursion over the trees, and that they are neighbours: they share an edge's ends.
-use mathlib.Core.Path.{_≡_, refl, sym, ap, ap₂, _∙_, subst}
-use Prim.Native.Nat.{ℕ, suc, _+_, _/_}
+use mathlib.Core.Path.{_≡_, refl, ap, ap₂, _∙_, subst}
+use Prim.Native.Nat.{ℕ, suc, _/_}
 use native.Mathlib.Nat.{add-comm}
 use Rattle.bintree.specs.declared.point.Point.{Point}
 use Rattle.bintree.specs.Triangles.{middle, centre}
@@ -110,6 +110,6 @@ beside s three = record { base = record { at-left = refl; at-right = refl; same 
 beside s (lo t) = record { base = lo-base s t (around t .left) (beside s t .left); left = lo-left s t; right = lo-right s t (around t .base) (beside s t .base) }
 beside s (hi t) = record { base = hi-base s t (around t .right) (beside s t .right); left = hi-left s t (around t .base) (beside s t .base); right = hi-right s t }
 
--- 2: the across-base has the base ends swapped, the same depth, and the triangle for its across-base
+-- the neighbour across the base has the base ends swapped, the same level, and this triangle across its own base
 pub across-base : (s : ℕ) (t u : Node) → around t .base ≡ some u → Swaps s t u
 across-base s t u e = subst (Where (Swaps s t)) e (beside s t .base)

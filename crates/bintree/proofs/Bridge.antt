@@ -2,7 +2,7 @@
 use mathlib.Core.Path.{_≡_, refl, sym, ap, _∙_, subst}
 use mathlib.Core.Logic.{_⊎_, inl, inr}
 use mathlib.Core.Bool.{Bool, true, false}
-use Prim.Native.Nat.{ℕ, zero, suc, _+_, _*_, _/_, _^_, _≤_, _<_}
+use Prim.Native.Nat.{ℕ, suc, _+_, _*_, _/_, _^_, _≤_, _<_}
 use native.Mathlib.Omega.{arith}
 use lib.Dec.{T}
 use Rattle.std.proofs.shelf.Tests.{both-ways, cases-eq}
@@ -13,14 +13,15 @@ use Rattle.bintree.specs.Triangles.{corners, partner}
 use Rattle.bintree.specs.Samples.{Mean}
 use Rattle.bintree.specs.Meshes.{Triangles, Within, IsMesh, Splits, Corner, OnEdge, CrackFree, SplitsPartners}
 use Rattle.bintree.specs.Laws.{Bridge}
-use Rattle.bintree.proofs.Tree.{Node, num, depth, place, Under, by-powers}
+use Rattle.bintree.proofs.Tree.{Node, num, depth, place, by-powers}
 use Rattle.bintree.proofs.Middles.{mean-apex, mean-left, mean-right}
 use Rattle.bintree.proofs.Around.{Near, none, some, around}
-use Rattle.bintree.proofs.Twins.{settled}
+use Rattle.bintree.proofs.Areas.{turning}
+use Rattle.bintree.proofs.Inside.{settled}
 use Rattle.bintree.proofs.Cracks.{Mesh, Closed, crack-free-closed, closed-crack-free}
 use Rattle.bintree.proofs.Cracks as tree
-use Rattle.bintree.proofs.Numbers.{node, num-node, num-from-two, num-injective, node-num, corners-is, end-is, first-finest-is, depth-of-triangle, triangle-of-depth, at-most, within, under}
-use Rattle.bintree.proofs.Partners.{num-near, not-so, partner-is, partner-laws, partners-true}
+use Rattle.bintree.proofs.Numbers.{node, num-node, num-from-two, num-injective, node-num, corners-is, end-is, first-finest-is, triangle-of-depth, at-most, within, under}
+use Rattle.bintree.proofs.Partners.{num-near, not-so, partner-is}
 
 -- a flag as a fact, and back
 T-true : {b : Bool} → b ≡ true → T b
@@ -47,9 +48,9 @@ corner-weights v t (inr (inr e)) = inr (inr (subst (λ (p : Point). Mean p t 0 0
 two-weights : (n : ℕ) (q : Node) (v : Point) (a l r : ℕ) → depth q ≤ 2 * n → 0 < a + l → 0 < l + r → 0 < r + a
     → Mean v (place (2 ^ n) q) a l r → CornerWeights v (place (2 ^ n) q) → ⊥
 unfolding CornerWeights
-two-weights n q v a l r h p₁ p₂ p₃ m (inl z) = let k = settled n q h v a l r 1 0 0 m z in omega (arith, k .at-l, k .at-r)
-two-weights n q v a l r h p₁ p₂ p₃ m (inr (inl z)) = let k = settled n q h v a l r 0 1 0 m z in omega (arith, k .at-a, k .at-r)
-two-weights n q v a l r h p₁ p₂ p₃ m (inr (inr z)) = let k = settled n q h v a l r 0 0 1 m z in omega (arith, k .at-a, k .at-l)
+two-weights n q v a l r h p₁ p₂ p₃ m (inl z) = let k = settled (place (2 ^ n) q) (turning n q h) v a l r 1 0 0 m z in omega (arith, k .at-l, k .at-r)
+two-weights n q v a l r h p₁ p₂ p₃ m (inr (inl z)) = let k = settled (place (2 ^ n) q) (turning n q h) v a l r 0 1 0 m z in omega (arith, k .at-a, k .at-r)
+two-weights n q v a l r h p₁ p₂ p₃ m (inr (inr z)) = let k = settled (place (2 ^ n) q) (turning n q h) v a l r 0 0 1 m z in omega (arith, k .at-a, k .at-l)
 
 own-corner : (n : ℕ) (q : Node) (v : Point) → depth q ≤ 2 * n → Corner v (place (2 ^ n) q) → OnEdge v (place (2 ^ n) q) → ⊥
 own-corner n q v h c (inl b) = two-weights n q v 0 (b .α) (b .β) h (omega arith) (omega arith) (omega arith) (record { on-x = omega (arith, b .on-x); on-y = omega (arith, b .on-y) }) (corner-weights v _ c)

@@ -119,7 +119,7 @@ has-corner n P M j s =
 some-inj : (u v : Node) → some u ≡ some v → u ≡ v
 some-inj u v e = cc
 
--- no triangle of a crack-free mesh lies over the across-base of a split one
+-- no triangle of a crack-free mesh lies over the neighbour across the base of a split one
 no-cover : (n : ℕ) (P : Node → Bool) → Mesh n P → CrackFree n P → (j i q : Node) → around j .base ≡ some i → Splits P j → T (P q) → Under q i → ⊥
 unfolding Across Meets
 no-cover n P M C j i q e s hq u = go (edges n q i u (omega (arith, h)) .base)
@@ -158,7 +158,7 @@ crack-free-closed n P M C j i e s = go (comparable i (M .owner (z .0) (z .1)) (z
     go (inl u) = record { out = λ p. no-cover n P M C j i i e s p (under-self i); below = M .owner (z .0) (z .1); under = u; inside = M .owner-in (z .0) (z .1) }
     go (inr u) = absurd (no-cover n P M C j i _ e s (M .owner-in (z .0) (z .1)) u)
 
--- the place of the square
+-- the corners of the square
 Square : ℕ → Point → Type 0
 Square s v = ((v .x ≡ 0) ⊎ (v .x ≡ s)) × ((v .y ≡ 0) ⊎ (v .y ≡ s))
 
@@ -221,7 +221,7 @@ no-square n t h z = go (left-over (depth t) (2 * n) h)
         let e = at-odd n t (p .0) (p .1) in
         square-based (2 ^ n) (2 ^ p .0) (e .turn) (e .px) (e .py) (pow-pos (p .0)) (e .x-in) (e .y-in) (rw (e .is) at z)
 
--- a mean with weight at two place or more is no corner, so it is a centre
+-- a mean with weight at two corners or more is no corner, so it is a centre
 inner-centre : (n : ℕ) (q : Node) → depth q ≤ 2 * n → (v : Point) (a l r : ℕ) → 0 < a + l → 0 < l + r → 0 < r + a → Mean v (place (2 ^ n) q) a l r → CentreIn n q v
 inner-centre n q h v a l r al lr ra m = go (locate n q h v a l r (omega arith) m)
   where

@@ -1,9 +1,9 @@
 -- A point lies in a closed triangle exactly if it is beyond none of its edges. Its weights are the doubled areas that it makes with the edges.
-use mathlib.Core.Path.{_≡_, refl, sym, ap, _∙_}
+use mathlib.Core.Path.{_≡_, sym, ap, _∙_}
 use mathlib.Core.Bool.{Bool, true, _&&_}
 use Prim.Native.Nat.{ℕ, _+_, _-_, _*_, _≤_, _<_}
 use native.Mathlib.Omega.{arith}
-use native.Mathlib.Nat.{mul-le-mul-left, le-of-mul-le-mul-left}
+use native.Mathlib.Nat.{mul-le-mul-left, le-of-mul-le-mul-left, eq-of-mul-eq-mul-left}
 use lib.Dec.{leb}
 use Rattle.std.proofs.shelf.Tests.{leb-true, le-leb, and-parts, and-from}
 use Rattle.bintree.specs.declared.point.Point.{Point}
@@ -17,57 +17,94 @@ beside p q v = leb (falling p q v) (rising p q v)
 unfoldable pub inside : Point → Corners → Bool
 inside v t = beside (t .left) (t .right) v && (beside (t .right) (t .apex) v && beside (t .apex) (t .left) v)
 
--- corners counterclockwise
+-- the corners stand counterclockwise
 pub record Turning (t : Corners) : Type 0 where
   pub turning : falling (t .apex) (t .left) (t .right) < rising (t .apex) (t .left) (t .right)
 
--- what goes evenly with a point goes so with a mean
+-- what is linear in a point is, at a mean of points, the mean of what it is there
 spread : (α β γ w x y : ℕ) → w * (γ + α * x + y * β) ≡ γ * w + α * (w * x) + β * (w * y)
 spread α β γ w x y = omega arith
 
-spread3 : (α β γ m n w sx sy tx ty ux uy : ℕ)
+spread-sum : (α β γ m n w sx sy tx ty ux uy : ℕ)
     → m * (γ + α * sx + sy * β) + n * (γ + α * tx + ty * β) + w * (γ + α * ux + uy * β) ≡ γ * (m + n + w) + α * (m * sx + n * tx + w * ux) + β * (m * sy + n * ty + w * uy)
-spread3 α β γ m n w sx sy tx ty ux uy = omega arith
+spread-sum α β γ m n w sx sy tx ty ux uy = omega arith
 
 spread-mean : (α β γ wo wp wq ox oy px py qx qy vx vy : ℕ) → (wo + wp + wq) * vx ≡ wo * ox + wp * px + wq * qx → (wo + wp + wq) * vy ≡ wo * oy + wp * py + wq * qy
     → (wo + wp + wq) * (γ + α * vx + vy * β) ≡ wo * (γ + α * ox + oy * β) + wp * (γ + α * px + py * β) + wq * (γ + α * qx + qy * β)
-spread-mean α β γ wo wp wq ox oy px py qx qy vx vy ex ey = spread α β γ (wo + wp + wq) vx vy ∙ rw (ex, ey) (sym (spread3 α β γ wo wp wq ox oy px py qx qy))
+spread-mean α β γ wo wp wq ox oy px py qx qy vx vy ex ey = spread α β γ (wo + wp + wq) vx vy ∙ rw (ex, ey) (sym (spread-sum α β γ wo wp wq ox oy px py qx qy))
 
-glue : (w wo wp wq bv av bo ao bp ap bq aq : ℕ) → w * bv ≡ wo * bo + wp * bp + wq * bq → w * av ≡ wo * ao + wp * ap + wq * aq → bp ≡ ap → bq ≡ aq → bo ≤ ao → w * bv ≤ w * av
-glue w wo wp wq bv av bo ao bp ap bq aq e f g h l =
-    let m = mul-le-mul-left wo l in
-    let x = mathlib.Core.Path.ap (λ (z : ℕ). wp * z) g in
-    let y = mathlib.Core.Path.ap (λ (z : ℕ). wq * z) h in omega arith
+-- rising and falling products agree at the ends of the edge, so only the weight of o counts
+joined : (w wo wp wq fv rv fo ro fp rp fq rq : ℕ) → w * fv ≡ wo * fo + wp * fp + wq * fq → w * rv ≡ wo * ro + wp * rp + wq * rq → fp ≡ rp → fq ≡ rq → w * fv + wo * ro ≡ w * rv + wo * fo
+joined w wo wp wq fv rv fo ro fp rp fq rq e f g h =
+    let x = ap (λ (z : ℕ). wp * z) g in
+    let y = ap (λ (z : ℕ). wq * z) h in omega arith
 
-on-p : (px py qx qy : ℕ) → py * qx + qy * px + py * px ≡ px * qy + py * px + py * qx
-on-p px py qx qy = omega arith
+share-at : (ox oy px py qx qy vx vy wo wp wq : ℕ) → (wo + wp + wq) * vx ≡ wo * ox + wp * px + wq * qx → (wo + wp + wq) * vy ≡ wo * oy + wp * py + wq * qy
+    → (wo + wp + wq) * (py * qx + qy * vx + vy * px) + wo * (px * qy + py * ox + oy * qx) ≡ (wo + wp + wq) * (px * qy + py * vx + vy * qx) + wo * (py * qx + qy * ox + oy * px)
+share-at ox oy px py qx qy vx vy wo wp wq ex ey =
+    joined (wo + wp + wq) wo wp wq _ _ _ _ _ _ _ _
+    (spread-mean qy px (py * qx) wo wp wq ox oy px py qx qy vx vy ex ey) (spread-mean py qx (px * qy) wo wp wq ox oy px py qx qy vx vy ex ey) (omega arith) (omega arith)
 
-on-q : (px py qx qy : ℕ) → py * qx + qy * qx + qy * px ≡ px * qy + py * qx + qy * qx
-on-q px py qx qy = omega arith
+-- v is the mean of o, p and q with these weights
+pub record Weighted (o p q v : Point) (wo wp wq : ℕ) : Type 0 where
+  pub on-x : (wo + wp + wq) * v .x ≡ wo * o .x + wp * p .x + wq * q .x
+  pub on-y : (wo + wp + wq) * v .y ≡ wo * o .y + wp * p .y + wq * q .y
 
--- a mean of o, p and q is not beyond the side p q
-side : (ox oy px py qx qy vx vy wo wp wq : ℕ) → py * qx + qy * ox + oy * px ≤ px * qy + py * ox + oy * qx
-    → (wo + wp + wq) * vx ≡ wo * ox + wp * px + wq * qx → (wo + wp + wq) * vy ≡ wo * oy + wp * py + wq * qy
-    → (wo + wp + wq) * (py * qx + qy * vx + vy * px) ≤ (wo + wp + wq) * (px * qy + py * vx + vy * qx)
-side ox oy px py qx qy vx vy wo wp wq h ex ey =
-    glue (wo + wp + wq) wo wp wq _ _ _ _ _ _ _ _
-    (spread-mean qy px (py * qx) wo wp wq ox oy px py qx qy vx vy ex ey) (spread-mean py qx (px * qy) wo wp wq ox oy px py qx qy vx vy ex ey) (on-p px py qx qy) (on-q px py qx qy) h
+-- the corners of a triangle in turn
+at-apex : (v : Point) (t : Corners) (a l r : ℕ) → Mean v t a l r → Weighted (t .apex) (t .left) (t .right) v a l r
+at-apex v t a l r h = record { on-x = h .on-x; on-y = h .on-y }
 
-not-beyond : (o p q v : Point) (wo wp wq : ℕ) → falling o p q ≤ rising o p q → 0 < wo + wp + wq
-    → (wo + wp + wq) * v .x ≡ wo * o .x + wp * p .x + wq * q .x → (wo + wp + wq) * v .y ≡ wo * o .y + wp * p .y + wq * q .y → beside p q v ≡ true
-not-beyond o p q v wo wp wq h pos ex ey =
-    let k = side (o .x) (o .y) (p .x) (p .y) (q .x) (q .y) (v .x) (v .y) wo wp wq (omega arith) ex ey in
-    let l = le-of-mul-le-mul-left k pos in le-leb _ _ (omega arith)
+at-left : (v : Point) (t : Corners) (a l r : ℕ) → Mean v t a l r → Weighted (t .left) (t .right) (t .apex) v l r a
+at-left v t a l r h = record { on-x = omega (arith, h .on-x); on-y = omega (arith, h .on-y) }
+
+at-right : (v : Point) (t : Corners) (a l r : ℕ) → Mean v t a l r → Weighted (t .right) (t .apex) (t .left) v r a l
+at-right v t a l r h = record { on-x = omega (arith, h .on-x); on-y = omega (arith, h .on-y) }
+
+-- o has that share of the weights that the doubled area of p q v is of that of o p q
+share : (o p q v : Point) (wo wp wq : ℕ) → Weighted o p q v wo wp wq
+    → (wo + wp + wq) * falling p q v + wo * rising o p q ≡ (wo + wp + wq) * rising p q v + wo * falling o p q
+share o p q v wo wp wq h = omega (arith, share-at (o .x) (o .y) (p .x) (p .y) (q .x) (q .y) (v .x) (v .y) wo wp wq (h .on-x) (h .on-y))
+
+not-beyond : (o p q v : Point) (wo wp wq : ℕ) → falling o p q ≤ rising o p q → 0 < wo + wp + wq → Weighted o p q v wo wp wq → beside p q v ≡ true
+not-beyond o p q v wo wp wq h pos m = le-leb _ _ (le-of-mul-le-mul-left (less _ _ _ _ (share o p q v wo wp wq m) (mul-le-mul-left wo h)) pos)
+  where
+    less : (x y z w : ℕ) → x + y ≡ z + w → w ≤ y → x ≤ z
+    less x y z w e l = omega arith
 
 pub mean-inside : (v : Point) (t : Corners) (a l r : ℕ) → Turning t → 0 < a + l + r → Mean v t a l r → inside v t ≡ true
 unfolding inside
 mean-inside v t a l r s p h =
     let b : falling (t .apex) (t .left) (t .right) < rising (t .apex) (t .left) (t .right) = s .turning in
-    and-from _ _ (not-beyond (t .apex) (t .left) (t .right) v a l r (omega arith) p (h .on-x) (h .on-y))
-    (and-from _ _ (not-beyond (t .left) (t .right) (t .apex) v l r a (omega arith) (omega arith) (omega (arith, h .on-x)) (omega (arith, h .on-y)))
-    (not-beyond (t .right) (t .apex) (t .left) v r a l (omega arith) (omega arith) (omega (arith, h .on-x)) (omega (arith, h .on-y))))
+    and-from _ _ (not-beyond (t .apex) (t .left) (t .right) v a l r (omega arith) p (at-apex v t a l r h))
+    (and-from _ _ (not-beyond (t .left) (t .right) (t .apex) v l r a (omega arith) (omega arith) (at-left v t a l r h))
+    (not-beyond (t .right) (t .apex) (t .left) v r a l (omega arith) (omega arith) (at-right v t a l r h)))
 
--- twice the areas that a point makes with the sides are its weights
+-- so the weights of a point in a triangle are settled, up to a factor
+pub record Settled (a l r a′ l′ r′ : ℕ) : Type 0 where
+  pub at-a : (a′ + l′ + r′) * a ≡ (a + l + r) * a′
+  pub at-l : (a′ + l′ + r′) * l ≡ (a + l + r) * l′
+  pub at-r : (a′ + l′ + r′) * r ≡ (a + l + r) * r′
+
+settled-at : (W W′ w w′ X Y R F : ℕ) → W * X + w * R ≡ W * Y + w * F → W′ * X + w′ * R ≡ W′ * Y + w′ * F → F < R → W′ * w ≡ W * w′
+settled-at W W′ w w′ X Y R F e f h = eq-of-mul-eq-mul-left (R - F) (omega arith) (W′ * w) (W * w′) (go (R - F) (omega arith))
+  where
+    go : (A : ℕ) → R ≡ F + A → A * (W′ * w) ≡ A * (W * w′)
+    go A g =
+        let p = ap (λ (z : ℕ). W′ * z) e in
+        let q = ap (λ (z : ℕ). W * z) f in
+        let s = ap (λ (z : ℕ). W′ * w * z) g in
+        let t = ap (λ (z : ℕ). W * w′ * z) g in omega arith
+
+pub settled : (t : Corners) → Turning t → (v : Point) (a l r a′ l′ r′ : ℕ) → Mean v t a l r → Mean v t a′ l′ r′ → Settled a l r a′ l′ r′
+settled t s v a l r a′ l′ r′ m m′ =
+    let b : falling (t .apex) (t .left) (t .right) < rising (t .apex) (t .left) (t .right) = s .turning in
+    record {
+      at-a = settled-at (a + l + r) (a′ + l′ + r′) a a′ _ _ _ _ (share _ _ _ v a l r (at-apex v t a l r m)) (share _ _ _ v a′ l′ r′ (at-apex v t a′ l′ r′ m′)) b;
+      at-l = omega (arith, settled-at (l + r + a) (l′ + r′ + a′) l l′ _ _ _ _ (share _ _ _ v l r a (at-left v t a l r m)) (share _ _ _ v l′ r′ a′ (at-left v t a′ l′ r′ m′)) (omega arith));
+      at-r = omega (arith, settled-at (r + a + l) (r′ + a′ + l′) r r′ _ _ _ _ (share _ _ _ v r a l (at-right v t a l r m)) (share _ _ _ v r′ a′ l′ (at-right v t a′ l′ r′ m′)) (omega arith));
+    }
+
+-- the doubled areas that a point makes with the edges are its weights: their sum
 weights-sum : (ax ay lx ly rx ry vx vy wa wl wr w : ℕ)
     → lx * ry + rx * vy + vx * ly ≡ wa + (ly * rx + ry * vx + vy * lx)
     → rx * ay + ax * vy + vx * ry ≡ wl + (ry * ax + ay * vx + vy * rx)
@@ -86,6 +123,7 @@ whole-y : (ax ay lx ly rx ry vx vy : ℕ)
     ≡ (ly * rx + ry * vx + vy * lx) * ay + (ry * ax + ay * vx + vy * rx) * ly + (ay * lx + ly * vx + vy * ax) * ry + (ax * ly + lx * ry + rx * ay) * vy
 whole-y ax ay lx ly rx ry vx vy = omega arith
 
+-- what the whole areas say, less what the falling products say
 solve : (p m1 p1 q m2 p2 r m3 p3 Z M P S c d e : ℕ) → p1 * c + p2 * d + p3 * e + M * S ≡ m1 * c + m2 * d + m3 * e + P * S
     → p1 ≡ p + m1 → p2 ≡ q + m2 → p3 ≡ r + m3 → P ≡ Z + M → Z * S ≡ p * c + q * d + r * e
 solve p m1 p1 q m2 p2 r m3 p3 Z M P S c d e h e1 e2 e3 e4 =
@@ -94,9 +132,11 @@ solve p m1 p1 q m2 p2 r m3 p3 Z M P S c d e h e1 e2 e3 e4 =
     let f = ap (λ (z : ℕ). z * e) e3 in
     let g = ap (λ (z : ℕ). z * S) e4 in omega arith
 
+-- the rising products are the falling ones and a rest
 rising-rest : (p q v : Point) → beside p q v ≡ true → rising p q v ≡ (rising p q v - falling p q v) + falling p q v
 rising-rest p q v e = let h : falling p q v ≤ rising p q v = leb-true _ _ e in omega arith
 
+-- a point beyond no edge lies in the triangle, and back
 pub inside-in : (v : Point) (t : Corners) → Turning t → inside v t ≡ true → LiesIn v t
 unfolding inside area
 inside-in v t s e =

@@ -1,27 +1,27 @@
 -- The laws by number, from the trees.
-use mathlib.Core.Path.{_≡_, refl, sym, ap, _∙_, subst}
+use mathlib.Core.Path.{_≡_, sym, ap, _∙_, subst}
 use mathlib.Core.Logic.{_⊎_, inl, inr}
-use mathlib.Core.Bool.{Bool, true}
-use Prim.Native.Nat.{ℕ, suc, _+_, _-_, _*_, _/_, _^_, _≤_, _<_}
+use mathlib.Core.Bool.{Bool}
+use Prim.Native.Nat.{ℕ, suc, _+_, _-_, _*_, _^_, _≤_, _<_}
 use native.Mathlib.Omega.{arith}
 use lib.Pow.{pow-pos}
 use Rattle.std.specs.Orderings.{Decides}
 use Rattle.bintree.specs.declared.point.Point.{Point}
 use Rattle.bintree.specs.declared.point.Corners.{Corners}
 use Rattle.bintree.specs.Orders.{end, first-finest}
-use Rattle.bintree.specs.Triangles.{corners, level, centre, low-half, high-half, partner}
-use Rattle.bintree.specs.Samples.{area, box, BoxIn, Mean, LiesIn}
+use Rattle.bintree.specs.Triangles.{corners, level, centre, partner}
+use Rattle.bintree.specs.Samples.{area, Mean, LiesIn}
 use Rattle.bintree.specs.Meshes.{Within, Corner}
-use Rattle.bintree.specs.Laws.{LevelLaws, CornerLaws, WholeCentre, SameCentre, BoxesNest, CentreBelow, SampleLaws}
-use Rattle.bintree.proofs.Tree.{Node, lo, hi, num, depth, place, Under, by-powers}
+use Rattle.bintree.specs.Laws.{LevelLaws, CornerLaws, WholeCentre, SameCentre, CentreBelow, SampleLaws}
+use Rattle.bintree.proofs.Tree.{Node, num, depth, place, Under, by-powers}
 use Rattle.bintree.proofs.Middles.{whole, mean-low, mean-high, low-mean, high-mean}
 use Rattle.bintree.proofs.Locate.{apart, Single, CentreIn, single-corner, locate}
 use Rattle.bintree.proofs.Areas.{area-of}
 use Rattle.bintree.proofs.Areas as areas
 use Rattle.bintree.proofs.Inside.{Turning, inside, mean-inside, inside-in, in-inside}
-use Rattle.bintree.proofs.Around.{Near, none, some, around, across-base}
+use Rattle.bintree.proofs.Around.{some, around}
 use Rattle.bintree.proofs.Twins.{centres}
-use Rattle.bintree.proofs.Numbers.{node, num-node, num-from-two, node-num, node-injective, node-low, node-high, corners-is, corners-low, corners-high, level-is, end-twice, depth-of-triangle, depth-of-splittable, splittable-of-depth, within}
+use Rattle.bintree.proofs.Numbers.{node, num-node, node-num, node-injective, node-low, node-high, corners-is, corners-low, corners-high, level-is, end-twice, depth-of-triangle, depth-of-splittable, splittable-of-depth, within}
 use Rattle.bintree.proofs.Partners.{num-near, partner-is}
 
 -- levels
@@ -63,19 +63,6 @@ same-centre n i j li ui lj uj e =
     go : (node j ≡ node i) ⊎ (around (node i) .base ≡ some (node j)) → (i ≡ j) ⊎ (partner n i ≡ j)
     go (inl z) = inl (node-injective i j li lj (sym z))
     go (inr z) = inr (partner-is n i li (omega (arith, end-twice n)) ∙ (ap num-near z ∙ num-node j lj))
-
--- boxes
-low-box : (t : Corners) → BoxIn (box (low-half t)) (box t)
-low-box t = record { low-x = omega arith; low-y = omega arith; high-x = omega arith; high-y = omega arith }
-
-high-box : (t : Corners) → BoxIn (box (high-half t)) (box t)
-high-box t = record { low-x = omega arith; low-y = omega arith; high-x = omega arith; high-y = omega arith }
-
-pub boxes-nest : (n : ℕ) → BoxesNest n
-boxes-nest n i p q = (
-  subst (λ (t : Corners). BoxIn (box t) (box (corners n i))) (sym (corners-low n i p)) (low-box (corners n i)),
-  subst (λ (t : Corners). BoxIn (box t) (box (corners n i))) (sym (corners-high n i p)) (high-box (corners n i)),
-)
 
 -- samples: a point lies in a triangle exactly if it is a mean of its corners with weights of some positive sum
 pub turning : (n i : ℕ) → 2 ≤ i → i < end n → Turning (corners n i)

@@ -5,13 +5,13 @@ pub mod Middles
 pub mod Locate
 pub mod Around
 pub mod Edge
+pub mod Inside
+pub mod Areas
 pub mod Twins
 pub mod Cracks
 pub mod Numbers
-pub mod Inside
-pub mod Areas
 pub mod Partners
 pub mod Bridge
 pub mod Laws
-pub mod Descent
 pub mod Levels
+pub mod Descent

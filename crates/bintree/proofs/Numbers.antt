@@ -1,6 +1,6 @@
 -- Triangle numbers are the trees: each number from 2 on is one node, and corners, levels and descent by number are those of its node.
-use mathlib.Core.Path.{_≡_, refl, sym, ap, _∙_, subst}
-use mathlib.Core.Logic.{_⊎_, inl, inr}
+use mathlib.Core.Path.{_≡_, refl, sym, ap, _∙_}
+use mathlib.Core.Logic.{inl, inr}
 use mathlib.Core.Bool.{Bool, true, false}
 use Prim.Native.Nat.{ℕ, zero, suc, _+_, _*_, _/_, _%_, _^_, _≤_, _<_}
 use native.Mathlib.Omega.{arith}
@@ -8,7 +8,6 @@ use native.Mathlib.Nat.{div-one, div-div-eq-div-mul, div-le-self}
 use lib.Dec.{eqb, ltb}
 use lib.Pow.{pow-mono}
 use borrow.Author.Tests.{ltb-true, ltb-false, eqb-true, eqb-false}
-use Rattle.bintree.specs.declared.point.Corners.{Corners}
 use Rattle.bintree.specs.Orders.{end, first-finest}
 use Rattle.bintree.specs.Triangles.{low-half, high-half, root-two, root-three, cornersAt, corners, levelAt, level}
 use Rattle.bintree.specs.Meshes.{Within}

@@ -2,14 +2,14 @@
 -- recursion over the trees finds. That it is the only one follows from the centre lemma, in the square of twice the side, where every base has a whole middle.
 use mathlib.Core.Path.{_≡_, refl, sym, ap, ap₂, _∙_, subst}
 use mathlib.Core.Logic.{_⊎_, inl, inr}
-use mathlib.Core.Bool.{Bool, true, false, _&&_, _||_, not}
-use Prim.Native.Nat.{ℕ, zero, suc, _+_, _-_, _*_, _/_, _%_, _^_, _≤_, _<_}
+use mathlib.Core.Bool.{Bool, true, false, _&&_}
+use Prim.Native.Nat.{ℕ, zero, suc, _*_, _^_, _≤_, _<_}
 use native.Mathlib.Omega.{arith}
-use lib.Dec.{eqb, ltb, leb}
-use Rattle.std.proofs.shelf.Tests.{cases-bool, cases-lt, cases-eq, both-ways, and-parts, and-from, and-left, and-right, or-cases, or-left, or-right, not-true, not-from-false, eqb-true, eqb-false, eq-eqb, ne-eqb, leb-true, le-leb, ltb-true, lt-ltb}
+use lib.Dec.{eqb}
+use Rattle.std.proofs.shelf.Tests.{cases-eq, and-parts, and-from, or-cases, or-left, or-right, not-true, not-from-false, eqb-true, eqb-false, eq-eqb, ne-eqb, leb-true, le-leb, ltb-true, lt-ltb}
 use Rattle.bintree.specs.declared.point.Point.{Point}
 use Rattle.bintree.specs.declared.point.Corners.{Corners}
-use Rattle.bintree.specs.Orders.{end, is-triangle}
+use Rattle.bintree.specs.Orders.{end}
 use Rattle.bintree.specs.Triangles.{at, tri, middle, centre, low-half, high-half, corners, level, same-point, same-base, partners, lowest, partner}
 use Rattle.bintree.specs.Laws.{WholeCentre, PartnerLaws}
 use Rattle.bintree.proofs.Tree.{Node, two, three, lo, hi, num, depth, place}
@@ -201,11 +201,6 @@ partner-is n i l u = go (around (node i) .base) refl
         (λ k y. let q = partners-true n i k y in
         sym (num-node k (q .2)) ∙ ap num (some-injective (node k) t (sym (from-partner n (node i) (node k) (depth-of-triangle n i l u) (q .4)) ∙ e)))
         lt
-
--- a number that is no triangle has no partner
-pub no-triangle-no-partner : (n i : ℕ) → is-triangle n i ≡ false → partner n i ≡ 0
-unfolding partner partners
-no-triangle-no-partner n i h = lowest-none (partners n i) (end n) (λ j l. and-left _ _ (and-left _ _ h))
 
 -- a partner is the partner, since there is only one
 pub only-partner : (n i j : ℕ) → partners n i j ≡ true → j ≡ partner n i

@@ -1,7 +1,7 @@
 -- Every triangle of a square has one of eight shapes: its legs lie along the axes (on even levels) or its base does (on odd levels), each in
 -- four turns. Exact middles, areas and the like are then a few cases of linear arithmetic.
 use mathlib.Core.Path.{_≡_, refl, ap}
-use Prim.Native.Nat.{ℕ, zero, suc, _+_, _*_, _^_, _≤_, _<_}
+use Prim.Native.Nat.{ℕ, suc, _+_, _*_, _^_, _≤_}
 use native.Mathlib.Omega.{arith}
 use Rattle.bintree.specs.declared.point.Point.{Point}
 use Rattle.bintree.specs.declared.point.Corners.{Corners}

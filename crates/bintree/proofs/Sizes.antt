@@ -1,5 +1,5 @@
 -- The sizes of a square of order at most 6.
-use Prim.Native.Nat.{ℕ, _+_, _*_, _^_, _≤_}
+use Prim.Native.Nat.{ℕ, _+_, _*_, _≤_}
 use native.Mathlib.Omega.{arith}
 use lib.Pow.{pow-mono}
 use Rattle.bintree.specs.Orders.{side, first-finest, end}

@@ -2,7 +2,7 @@
 -- of the triangle reached has its mirror image beyond that edge, so both can be followed into one half.
 use mathlib.Core.Path.{_≡_, refl, sym, ap, _∙_, subst}
 use mathlib.Core.Logic.{_⊎_, inl, inr}
-use Prim.Native.Nat.{ℕ, zero, suc, _+_, _-_, _*_, _/_, _%_, _^_, _≤_, _<_}
+use Prim.Native.Nat.{ℕ, zero, suc, _+_, _*_, _^_, _≤_, _<_}
 use native.Mathlib.Omega.{arith}
 use native.Mathlib.Nat.{eq-of-mul-eq-mul-left}
 use lib.Pow.{pow-pos}
@@ -11,77 +11,16 @@ use Rattle.bintree.specs.Triangles.{centre}
 use Rattle.bintree.specs.Samples.{Mean}
 use Rattle.bintree.specs.Laws.{WholeCentre}
 use Rattle.bintree.proofs.Tree.{Node, two, three, lo, hi, depth, place, Under, under-self, under-trans, under-depth, root-over}
-use Rattle.bintree.proofs.Shape.{Turn, q0, q1, q2, q3, legged, based, at-even, at-odd}
+use Rattle.bintree.proofs.Areas.{turning}
+use Rattle.bintree.proofs.Inside.{settled}
 use Rattle.bintree.proofs.Middles.{whole, low-mean, high-mean, mean-apex, mean-centre}
 use Rattle.bintree.proofs.Around.{some, lo?, hi?, around, across-base, shared-centre}
 
--- the weights of a point in a triangle are settled, up to a factor
-pub record Settled (a l r a′ l′ r′ : ℕ) : Type 0 where
-  pub at-a : (a′ + l′ + r′) * a ≡ (a + l + r) * a′
-  pub at-l : (a′ + l′ + r′) * l ≡ (a + l + r) * l′
-  pub at-r : (a′ + l′ + r′) * r ≡ (a + l + r) * r′
-
-ratio : (h W W′ x v p p′ : ℕ) → 0 < h → W * v ≡ W * x + h * p → W′ * v ≡ W′ * x + h * p′ → W′ * p ≡ W * p′
-ratio h W W′ x v p p′ z e f =
-    let g : W′ * (W * v) ≡ W′ * (W * x + h * p) = ap (λ (k : ℕ). W′ * k) e in
-    let k : W * (W′ * v) ≡ W * (W′ * x + h * p′) = ap (λ (k : ℕ). W * k) f in
-    eq-of-mul-eq-mul-left h z (W′ * p) (W * p′) (omega arith)
-
-settled-legged : (o : Turn) (h x y : ℕ) → 0 < h → (v : Point) (a l r a′ l′ r′ : ℕ) → Mean v (legged o h x y) a l r
-    → Mean v (legged o h x y) a′ l′ r′ → Settled a l r a′ l′ r′
-settled-legged q0 h x y z v a l r a′ l′ r′ m m′ =
-    let f = ratio h (a + l + r) (a′ + l′ + r′) x (v .x) l l′ z (omega arith) (omega arith) in
-    let g = ratio h (a + l + r) (a′ + l′ + r′) y (v .y) r r′ z (omega arith) (omega arith) in
-    record { at-a = omega (arith, f, g); at-l = omega (arith, f, g); at-r = omega (arith, f, g) }
-settled-legged q1 h x y z v a l r a′ l′ r′ m m′ =
-    let f = ratio h (a + l + r) (a′ + l′ + r′) x (v .x) (a + l) (a′ + l′) z (omega arith) (omega arith) in
-    let g = ratio h (a + l + r) (a′ + l′ + r′) y (v .y) l l′ z (omega arith) (omega arith) in
-    record { at-a = omega (arith, f, g); at-l = omega (arith, f, g); at-r = omega (arith, f, g) }
-settled-legged q2 h x y z v a l r a′ l′ r′ m m′ =
-    let f = ratio h (a + l + r) (a′ + l′ + r′) x (v .x) (a + r) (a′ + r′) z (omega arith) (omega arith) in
-    let g = ratio h (a + l + r) (a′ + l′ + r′) y (v .y) (a + l) (a′ + l′) z (omega arith) (omega arith) in
-    record { at-a = omega (arith, f, g); at-l = omega (arith, f, g); at-r = omega (arith, f, g) }
-settled-legged q3 h x y z v a l r a′ l′ r′ m m′ =
-    let f = ratio h (a + l + r) (a′ + l′ + r′) x (v .x) r r′ z (omega arith) (omega arith) in
-    let g = ratio h (a + l + r) (a′ + l′ + r′) y (v .y) (a + r) (a′ + r′) z (omega arith) (omega arith) in
-    record { at-a = omega (arith, f, g); at-l = omega (arith, f, g); at-r = omega (arith, f, g) }
-
-settled-based : (o : Turn) (h x y : ℕ) → 0 < h → (v : Point) (a l r a′ l′ r′ : ℕ) → Mean v (based o h x y) a l r
-    → Mean v (based o h x y) a′ l′ r′ → Settled a l r a′ l′ r′
-settled-based q0 h x y z v a l r a′ l′ r′ m m′ =
-    let f = ratio h (a + l + r) (a′ + l′ + r′) x (v .x) (a + 2 * r) (a′ + 2 * r′) z (omega arith) (omega arith) in
-    let g = ratio h (a + l + r) (a′ + l′ + r′) y (v .y) a a′ z (omega arith) (omega arith) in
-    record { at-a = omega (arith, f, g); at-l = omega (arith, f, g); at-r = omega (arith, f, g) }
-settled-based q1 h x y z v a l r a′ l′ r′ m m′ =
-    let f = ratio h (a + l + r) (a′ + l′ + r′) x (v .x) (l + r) (l′ + r′) z (omega arith) (omega arith) in
-    let g = ratio h (a + l + r) (a′ + l′ + r′) y (v .y) (a + 2 * r) (a′ + 2 * r′) z (omega arith) (omega arith) in
-    record { at-a = omega (arith, f, g); at-l = omega (arith, f, g); at-r = omega (arith, f, g) }
-settled-based q2 h x y z v a l r a′ l′ r′ m m′ =
-    let f = ratio h (a + l + r) (a′ + l′ + r′) x (v .x) (a + 2 * l) (a′ + 2 * l′) z (omega arith) (omega arith) in
-    let g = ratio h (a + l + r) (a′ + l′ + r′) y (v .y) (l + r) (l′ + r′) z (omega arith) (omega arith) in
-    record { at-a = omega (arith, f, g); at-l = omega (arith, f, g); at-r = omega (arith, f, g) }
-settled-based q3 h x y z v a l r a′ l′ r′ m m′ =
-    let f = ratio h (a + l + r) (a′ + l′ + r′) x (v .x) a a′ z (omega arith) (omega arith) in
-    let g = ratio h (a + l + r) (a′ + l′ + r′) y (v .y) (a + 2 * l) (a′ + 2 * l′) z (omega arith) (omega arith) in
-    record { at-a = omega (arith, f, g); at-l = omega (arith, f, g); at-r = omega (arith, f, g) }
-
-pub settled : (n : ℕ) (q : Node) → depth q ≤ 2 * n → (v : Point) (a l r a′ l′ r′ : ℕ) → Mean v (place (2 ^ n) q) a l r
-    → Mean v (place (2 ^ n) q) a′ l′ r′ → Settled a l r a′ l′ r′
-settled n q h v a l r a′ l′ r′ m m′ = go ((2 * n - depth q) % 2) refl
-  where
-    go : (b : ℕ) → (2 * n - depth q) % 2 ≡ b → Settled a l r a′ l′ r′
-    go zero z =
-        let e = at-even n q ((2 * n - depth q) / 2) (omega arith) in
-        settled-legged (e .turn) _ (e .px) (e .py) (pow-pos ((2 * n - depth q) / 2)) v a l r a′ l′ r′ (rw (e .is) at m) (rw (e .is) at m′)
-    go (suc b) z =
-        let e = at-odd n q ((2 * n - depth q) / 2) (omega arith) in
-        settled-based (e .turn) _ (e .px) (e .py) (pow-pos ((2 * n - depth q) / 2)) v a l r a′ l′ r′ (rw (e .is) at m) (rw (e .is) at m′)
-
--- a across-base of t in k
+-- t has a neighbour across its base in k
 Mirror : Node → Node → Type 0
 Mirror t k = (u : Node) × Under k u × (around t .base ≡ some u)
 
--- where the centre of t stands in q, a triangle over t; and on an edge of q it has a across-base beyond the edge
+-- where the centre of t stands in q, a triangle over t; and if it is on an edge of q, t has its neighbour beyond that edge
 record Stands (n : ℕ) (q t : Node) : Type 0 where
   wa : ℕ
   wl : ℕ
@@ -94,6 +33,7 @@ record Stands (n : ℕ) (q t : Node) : Type 0 where
   left : wr ≡ 0 → (k : Node) → around q .left ≡ some k → Mirror t k
   right : wl ≡ 0 → (k : Node) → around q .right ≡ some k → Mirror t k
 
+-- in t itself: the middle of the base
 stands-self : (n : ℕ) (t : Node) → WholeCentre (place (2 ^ n) t) → Stands n t t
 unfolding Mirror
 stands-self n t e = record {
@@ -109,6 +49,7 @@ stands-self n t e = record {
   right = λ z k h. absurd (omega arith);
 }
 
+-- a mirror image in a half is one in the whole
 down-lo : (t k : Node) → Mirror t (lo k) → Mirror t k
 unfolding Mirror
 down-lo t k m = (m .0, under-trans k (lo k) (m .0) (inr (under-self k)) (m .1), m .2)
@@ -117,6 +58,7 @@ down-hi : (t k : Node) → Mirror t (hi k) → Mirror t k
 unfolding Mirror
 down-hi t k m = (m .0, under-trans k (hi k) (m .0) (inr (under-self k)) (m .1), m .2)
 
+-- from a half to its parent: a leg of the half is the parent's leg, or lies within its base
 stands-lo : (n : ℕ) (q t : Node) → WholeCentre (place (2 ^ n) q) → Stands n (lo q) t → Stands n q t
 unfolding around place
 stands-lo n q t e h = record {
@@ -147,6 +89,7 @@ stands-hi n q t e h = record {
   right = λ z k w. down-lo t k (h .base z (lo k) (ap lo? w));
 }
 
+-- up to any triangle over t
 rise : (n : ℕ) (q p t : Node) → depth p ≤ 2 * n → Under q p → Stands n p t → Stands n q t
 unfolding depth
 rise n q two t h e s = subst (λ (z : Node). Stands n z t) (sym e) s
@@ -178,6 +121,7 @@ from-top q (hi t) (inr u) = go (from-top q t u)
     go (inr (inl k)) = inr (inl (inr k))
     go (inr (inr k)) = inr (inr (inr k))
 
+-- equal, or neighbours across the base
 Mates : Node → Node → Type 0
 Mates t j = (t ≡ j) ⊎ (around j .base ≡ some t)
 
@@ -198,7 +142,7 @@ mates-over t u j e (inr f) = inl (some-inj t j (sym (across-base 1 t u e .back) 
 no-apex : (n : ℕ) (q j : Node) → depth j < 2 * n → Under q j → centre (place (2 ^ n) j) ≡ place (2 ^ n) q .apex → ⊥
 no-apex n q j h u e =
     let s = stands n q j h u in
-    let k = settled n q (q-low (under-depth q j u)) (centre (place (2 ^ n) j)) (s .wa) (s .wl) (s .wr) 1 0 0 (s .mean)
+    let k = settled (place (2 ^ n) q) (turning n q (q-low (under-depth q j u))) (centre (place (2 ^ n) j)) (s .wa) (s .wl) (s .wr) 1 0 0 (s .mean)
     (subst (λ (p : Point). Mean p (place (2 ^ n) q) 1 0 0) (sym e) (mean-apex (place (2 ^ n) q))) in
     omega (arith, k .at-l, k .at-r, s .lr)
   where
@@ -206,11 +150,12 @@ no-apex n q j h u e =
     q-low (inl z) = omega (arith, ap depth z)
     q-low (inr z) = omega arith
 
+-- weights that fit both a low and a high half have none at the base end
 nothing : (w w′ a r a′ l′ : ℕ) → 0 < w → w * (a + 2 * r) ≡ w′ * a′ → w * a ≡ w′ * (a′ + 2 * l′) → r ≡ 0
 nothing w w′ a zero a′ l′ p e f = refl
 nothing w w′ a (suc r) a′ l′ p e f = absurd (omega arith)
 
--- the centre of one in the low-half half and one in the high-half half: it has a across-base in the high-half half
+-- the common centre of a triangle in the low half and one in the high half is on the line between the halves: the first has its neighbour in the high half
 across : (n : ℕ) (q t j : Node) → depth q < 2 * n → depth t < 2 * n → depth j < 2 * n → Under (lo q) t → Under (hi q) j
     → centre (place (2 ^ n) t) ≡ centre (place (2 ^ n) j) → Mirror t (hi q)
 unfolding around place
@@ -218,11 +163,12 @@ across n q t j hq ht hj u w e =
     let x = whole n q hq in
     let s = stands n (lo q) t ht u in
     let z = stands n (hi q) j hj w in
-    let k = settled n q (omega arith) (centre (place (2 ^ n) t)) (2 * s .wl) (s .wa + 2 * s .wr) (s .wa) (2 * z .wr) (z .wa) (z .wa + 2 * z .wl)
+    let k = settled (place (2 ^ n) q) (turning n q (omega arith)) (centre (place (2 ^ n) t)) (2 * s .wl) (s .wa + 2 * s .wr) (s .wa) (2 * z .wr) (z .wa) (z .wa + 2 * z .wl)
     (low-mean _ _ (s .wa) (s .wl) (s .wr) x (s .mean))
     (subst (λ (v : Point). Mean v (place (2 ^ n) q) (2 * z .wr) (z .wa) (z .wa + 2 * z .wl)) (sym e) (high-mean _ _ (z .wa) (z .wl) (z .wr) x (z .mean))) in
     s .left (nothing _ _ (s .wa) (s .wr) (z .wa) (z .wl) (omega (arith, z .al, z .lr, z .ra)) (k .at-l) (k .at-r)) (hi q) refl
 
+-- all triangles in q with one centre are so
 AllMates : ℕ → Node → Type 0
 AllMates n q = (t j : Node) → depth t < 2 * n → depth j < 2 * n → Under q t → Under q j → centre (place (2 ^ n) t) ≡ centre (place (2 ^ n) j) → Mates t j
 
@@ -261,7 +207,7 @@ unfolding depth
 all-mates n zero q h = all-mates-finest n q (omega arith)
 all-mates n (suc d) q h = all-mates-more n q (omega arith) (all-mates n d (lo q) (omega arith)) (all-mates n d (hi q) (omega arith))
 
--- on both sides of the diagonal
+-- a common centre of triangles on either side of the diagonal is on it
 scaled : (s V W z k m : ℕ) → 0 < s → V * z ≡ s * k → W * z ≡ s * m → W * k ≡ V * m
 scaled s V W z k m p e f =
     let g : W * (V * z) ≡ W * (s * k) = ap (λ (q : ℕ). W * q) e in

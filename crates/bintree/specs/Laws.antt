@@ -5,7 +5,7 @@ use mathlib.Core.Logic.{_⊎_}
 use mathlib.Core.Bool.{true}
 use Rattle.bintree.specs.declared.point.Point.{Point}
 use Rattle.bintree.specs.declared.point.Corners.{Corners}
-use Rattle.bintree.specs.Orders.{side, end, first-finest}
+use Rattle.bintree.specs.Orders.{end, first-finest}
 use Rattle.bintree.specs.Triangles.{corners, low-half, high-half, centre, level, partners, partner}
 use Rattle.bintree.specs.Samples.{area, box, BoxIn, LiesIn}
 use Rattle.bintree.specs.Meshes.{Triangles, Within, IsMesh, Corner, CrackFree, SplitsPartners}

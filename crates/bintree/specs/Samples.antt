@@ -1,8 +1,6 @@
 -- Areas, bounding boxes, and the points that lie in a closed triangle.
 use Prim.Native.Nat.{ℕ, _+_, _-_, _*_, _≤_, min, max}
 use mathlib.Core.Path.{_≡_}
-use mathlib.Core.Bool.{Bool, _&&_}
-use lib.Dec.{leb}
 use Rattle.bintree.specs.declared.point.Point.{Point}
 use Rattle.bintree.specs.declared.point.Corners.{Corners}
 use Rattle.bintree.specs.declared.point.BoundingBox.{BoundingBox}

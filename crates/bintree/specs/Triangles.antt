@@ -1,5 +1,5 @@
 -- The triangles of a square by their numbers: corners, halves, levels, partners.
-use Prim.Native.Nat.{ℕ, zero, suc, _+_, _*_, _/_, _%_, _^_}
+use Prim.Native.Nat.{ℕ, zero, suc, _+_, _/_, _%_}
 use mathlib.Core.Bool.{Bool, true, false, _&&_, _||_, not}
 use lib.Dec.{eqb, ltb}
 use Rattle.bintree.specs.declared.point.Point.{Point}

@@ -2,7 +2,6 @@ use native.Mathlib.Omega.{arith}
 use mathlib.Core.Path.{_∙_, ap₂, subst, sym}
 use Prim.Native.Nat.{ℕ, _+_, _-_}
 use Rattle.bintree.specs.Neighbours.{beside, BelowTwice}
-use Rattle.bintree.specs.declared.triangle.neighbours.Neighbours.{Neighbours}
 use Rattle.bintree.proofs.Sizes.{end-bound}
 use Rattle.bintree.proofs.Descent.{neighbours-root, neighbours-even, neighbours-odd, below-root, below-even, below-odd}
 use Rattle.bintree.proofs.triangle.Triangle.+neighbours.Needs as need
