@@ -43,38 +43,43 @@ around (hi t) = aroundHi t (around t)
 middle-comm : (p q : Point) → middle p q ≡ middle q p
 middle-comm p q = point-eq (ap (λ (z : ℕ). z / 2) (add-comm (p .x) (q .x))) (ap (λ (z : ℕ). z / 2) (add-comm (p .y) (q .y)))
 
--- the neighbour across an edge has that edge's ends, the other way round
+-- u lies across the base of t: it has the base ends swapped, the same level, and t across its own base
 pub record Swaps (s : ℕ) (t u : Node) : Type 0 where
   pub at-left : place s u .left ≡ place s t .right
   pub at-right : place s u .right ≡ place s t .left
   pub same : depth u ≡ depth t
   pub back : around u .base ≡ some t
 
+-- u lies across the left edge of t: it shares the apex and the left corner, which is its right one
 pub record AtLeft (s : ℕ) (t u : Node) : Type 0 where
   pub at-apex : place s u .apex ≡ place s t .apex
   pub at-right : place s u .right ≡ place s t .left
   pub same : depth u ≡ depth t
   pub back : around u .right ≡ some t
 
+-- u lies across the right edge of t: it shares the apex and the right corner, which is its left one
 pub record AtRight (s : ℕ) (t u : Node) : Type 0 where
   pub at-apex : place s u .apex ≡ place s t .apex
   pub at-left : place s u .left ≡ place s t .right
   pub same : depth u ≡ depth t
   pub back : around u .left ≡ some t
 
--- what a neighbour must satisfy
+-- A holds of a neighbour, where there is one
 abbrev pub Where : (Node → Type 0) → Near → Type 0
 Where A none = Unit {0}
 Where A (some u) = A u
 
+-- the neighbours in a ring lie where they should
 pub record Beside (s : ℕ) (t : Node) (n : Ring) : Type 0 where
   pub base : Where (Swaps s t) (n .base)
   pub left : Where (AtLeft s t) (n .left)
   pub right : Where (AtRight s t) (n .right)
 
+-- triangles across a base from each other have one centre
 pub shared-centre : (s : ℕ) (t u : Node) → Swaps s t u → centre (place s u) ≡ centre (place s t)
 shared-centre s t u h = ap₂ middle (h .at-left) (h .at-right) ∙ middle-comm _ _
 
+-- the neighbours of a half lie where they should if those of its parent do
 lo-base : (s : ℕ) (t : Node) (z : Near) → Where (AtLeft s t) z → Where (Swaps s (lo t)) (hi? z)
 unfolding place depth around
 lo-base s t none h = tt

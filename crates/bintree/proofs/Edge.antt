@@ -24,9 +24,11 @@ pub record Part (p q u w : Point) : Type 0 where
   pub q-x : (qu + qw) * q .x ≡ qu * u .x + qw * w .x
   pub q-y : (qu + qw) * q .y ≡ qu * u .y + qw * w .y
 
+-- an edge lies along itself
 pub self : (u w : Point) → Part u w u w
 self u w = record { pu = 1; pw = 0; qu = 0; qw = 1; sums = refl; apart = omega arith; p-x = omega arith; p-y = omega arith; q-x = omega arith; q-y = omega arith }
 
+-- on one axis: the middle of p and q is a mean of u and w if p and q are
 mean : (a b c d p q m u w : ℕ) → 2 * m ≡ p + q → a + b ≡ c + d → (a + b) * p ≡ a * u + b * w → (c + d) * q ≡ c * u + d * w
     → ((a + c) + (b + d)) * m ≡ (a + c) * u + (b + d) * w
 mean a b c d p q m u w e s h k =
@@ -38,6 +40,7 @@ mean a b c d p q m u w e s h k =
 twice : (a b p u w : ℕ) → (a + b) * p ≡ a * u + b * w → (2 * a + 2 * b) * p ≡ 2 * a * u + 2 * b * w
 twice a b p u w h = omega arith
 
+-- so does half of a part, and a part walked the other way
 pub first : (p q m u w : Point) → 2 * m .x ≡ p .x + q .x → 2 * m .y ≡ p .y + q .y → Part p q u w → Part p m u w
 first p q m u w ex ey h = record {
   pu = 2 * h .pu;
@@ -66,6 +69,7 @@ flip p q u w h = record {
   q-y = h .p-y;
 }
 
+-- the middle of a part lies strictly between the ends
 pub between-ends : (p q m u w : Point) → 2 * m .x ≡ p .x + q .x → 2 * m .y ≡ p .y + q .y → Part p q u w → Between m u w
 between-ends p q m u w ex ey h = record {
   α = h .pu + h .qu;
@@ -82,6 +86,7 @@ between-ends p q m u w ex ey h = record {
     pos-w : (a b c d : ℕ) → a + b ≡ c + d → (a ≡ c → ⊥) → 0 < b + d
     pos-w a b c d s f = omega arith
 
+-- the segment lies along an edge of t
 abbrev pub PartOf : Point → Point → Corners → Type 0
 PartOf p q t = Part p q (t .left) (t .right) ⊎ Part p q (t .apex) (t .left) ⊎ Part p q (t .right) (t .apex)
 
@@ -99,15 +104,18 @@ between-of p q m t ex ey (inr (inr h)) = inr (inr (between-ends p q m _ _ ex ey 
 unfoldable pub Across : ℕ → Node → Near → Point → Point → Type 0
 Across s k z p q = ((u : Node) × (z ≡ some u) × Under k u) ⊎ PartOf p q (place s k)
 
+-- so for each edge of t, with its neighbours n
 pub record Edges (s : ℕ) (k : Node) (n : Ring) (t : Corners) : Type 0 where
   pub base : Across s k (n .base) (t .left) (t .right)
   pub left : Across s k (n .left) (t .apex) (t .left)
   pub right : Across s k (n .right) (t .right) (t .apex)
 
+-- the edges of k itself
 own : (s : ℕ) (k : Node) → Edges s k (around k) (place s k)
 unfolding Across
 own s k = record { base = inr (inl (self _ _)); left = inr (inr (inl (self _ _))); right = inr (inr (inr (self _ _))) }
 
+-- what lies across an edge of a half, from what lies across that of its parent
 hi-over : (s : ℕ) (k : Node) (z : Near) (p q p′ q′ : Point) → ((u w : Point) → Part p q u w → Part p′ q′ u w) → Across s k z p q → Across s k (hi? z) p′ q′
 unfolding Across
 hi-over s k z p q p′ q′ f (inl h) = inl (hi (h .0), ap hi? (h .1), inr (h .2))
