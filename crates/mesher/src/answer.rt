@@ -1,9 +1,14 @@
 // Answers, and how they are written.
+use crate::refusal::Refusal;
+use crate::refusal::RefusalDisplay;
 use bintree::point::Corners;
 use std::fmt;
 
 #[derive(Clone, Copy)]
 pub enum Answer {
+    Done,
+    Refused(Refusal),
+    NoMemory,
     Triangle {
         level: u32,
         corners: Corners,
@@ -15,6 +20,9 @@ pub enum Answer {
 pub impl fmt::Display for Answer as AnswerDisplay {
     fn fmt<W: fmt::Write>(&self, f: &mut fmt::Formatter<W>) -> fmt::Result {
         match self {
+            Answer::Done => write!(f, "ok"),
+            Answer::Refused(refusal) => write!(f, "{refusal}"),
+            Answer::NoMemory => write!(f, "no memory"),
             Answer::Triangle {
                 level,
                 corners,

@@ -1,12 +1,13 @@
 // Runs a script of calls on the library and prints an answer a line. Nothing is decided here: words are read, calls made, answers printed.
 mod answer;
-mod command;
+mod lines;
+mod refusal;
 mod session;
 
 use crate::answer::AnswerDisplay;
-use crate::command::Line;
-use crate::command::read_line;
-use crate::session::respond;
+use crate::lines::Line;
+use crate::lines::read_line;
+use crate::session::Session;
 use std::env;
 use std::error::AnyError;
 use std::fs;
@@ -27,12 +28,16 @@ fn script(rt: &LibcRuntime) -> Result<String, AnyError> {
 
 fn run(rt: &LibcRuntime) -> Result<(), AnyError> {
     let text = script(rt)?;
+    let mut session = Session::new(rt.alloc())?;
     let mut number: usize = 0;
     for line in text.as_str().lines() {
         number = number.saturating_add(1);
         match read_line(rt.alloc(), line) {
             Ok(Line::Blank) => (),
-            Ok(Line::Command(command)) => println!(rt, "{}", respond(command))?,
+            Ok(Line::Call(call)) => rt.println(session.answer(rt.alloc(), call))?,
+            Ok(Line::Load(path)) => session.load(rt, path)?,
+            Ok(Line::Show) => session.show(rt)?,
+            Ok(Line::List) => session.list(rt)?,
             Ok(Line::NotUnderstood) => println!(rt, "line {number}: not understood")?,
             Err(_) => println!(rt, "no memory")?,
         }

@@ -1,0 +1,7 @@
+-- Past the end of a list a read gives its default.
+use mathlib.Core.Path.{sym}
+use Rattle.std.proofs.shelf.Lists.{getD-past}
+use Rattle.baked.proofs.bytes.byte_at.Needs as need
+
+pub returns-else-at-bytes : need.returns-else-at-bytes
+returns-else-at-bytes c = sym (getD-past (c .args .bytes .now) (c .args .at) 0 (c .if-at-bytes .left))

@@ -1,0 +1,10 @@
+pub mod Basics
+pub mod Members
+pub mod Levels
+pub mod Sums
+pub mod Deepest
+pub mod Forcing
+pub mod Merging
+pub mod KeyLemma
+pub mod Optimum
+pub mod Updates

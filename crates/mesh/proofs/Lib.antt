@@ -1,0 +1,15 @@
+pub mod Square
+pub mod Ancestors
+pub mod Covers
+pub mod Wholes
+pub mod Moves
+pub mod Counts
+pub mod Theorems
+pub mod Runs
+pub mod Guarded
+pub mod Unrolled
+pub mod Flags
+pub mod Diamonds
+pub mod Replies
+pub mod Listing
+pub mod InSquare

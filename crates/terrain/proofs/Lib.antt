@@ -1,0 +1,14 @@
+pub mod Anew
+pub mod Measuring
+pub mod Holding
+pub mod Wedges
+pub mod Highest
+pub mod Carvings
+pub mod Places
+pub mod Due
+pub mod Settlings
+pub mod Replies
+pub mod Maps
+pub mod Options
+pub mod Lowest
+pub mod Fillings

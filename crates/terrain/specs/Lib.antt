@@ -1,0 +1,10 @@
+pub mod Heights
+pub mod Bounds
+pub mod Carving
+pub mod Grounds
+pub mod Laws
+pub mod Refusals
+pub mod Tables
+pub mod Working
+pub mod Views
+pub mod Filling
