@@ -5,10 +5,10 @@ use Rattle.bintree.proofs.Levels.{level-read}
 use Rattle.bintree.proofs.triangle.Triangle.level.Needs as need
 
 pub sub-result : need.sub-result
-sub-result c = level-read (c .args .self .number) (omega arith) (omega (arith, end-bound (c .args .self .order .n) (omega arith))) .0
+sub-result c = omega (arith, level-read (c .args .self .number) (omega arith) (omega (arith, end-bound (c .args .self .order .n) (omega arith))) .0)
 
 pub returns : need.returns
 returns c = record {
-  value = level-read (c .args .self .number) (omega arith) (omega (arith, end-bound (c .args .self .order .n) (omega arith))) .1;
+  value = omega (arith, level-read (c .args .self .number) (omega arith) (omega (arith, end-bound (c .args .self .order .n) (omega arith))));
   laws = level-laws (c .args .self .number) (omega arith);
 }
