@@ -5,7 +5,7 @@ use Rattle.std.proofs.lemmas.Bool.{cases_eq, and_parts, and_from, or_cases, or_l
 use Rattle.bintree.specs.declared.point.Point.{Point}
 use Rattle.bintree.specs.declared.point.Corners.{Corners}
 use Rattle.bintree.specs.Orders.{end}
-use Rattle.bintree.specs.Triangles.{at, tri, middle, centre, low_half, high_half, corners, level, same_point, same_base, partners, lowest, partner}
+use Rattle.bintree.specs.Triangles.{at, tri, middle, centre, low_half, high_half, corners, same_point, same_base, partners, lowest, partner}
 use Rattle.bintree.specs.Laws.{WholeCentre, PartnerLaws}
 use Rattle.bintree.proofs.Tree.{Node, two, three, lo, hi, num, depth, place}
 use Rattle.bintree.proofs.Shape.{point_eq, corners_eq}

@@ -1,4 +1,6 @@
 // The triangle bintree of a terrain square: numbers, levels, corners, partners, samples.
+#![tactic(auto)]
+
 pub mod fault;
 pub mod order;
 pub mod point;

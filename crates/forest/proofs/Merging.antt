@@ -1,5 +1,5 @@
 -- Merges: what is left of a closed set without a mergeable diamond is closed, since no half of the diamond is split and partners go together.
-use Rattle.std.proofs.Common.{◌≡◌, ℕ, zero, suc, ◌+◌, ◌*◌, ◌/◌, ◌<◌, ◌≤◌, true, false, eqb, ◌⊎◌, sym, refl, ap, ◌∙◌, subst, inl, inr, arith}
+use Rattle.std.proofs.Common.{◌≡◌, ℕ, zero, suc, ◌+◌, ◌*◌, ◌/◌, ◌<◌, ◌≤◌, true, false, ◌⊎◌, sym, refl, ap, ◌∙◌, subst, inl, inr, arith}
 use Rattle.std.proofs.lemmas.Bool.{both_ways, cases_eq, eq-eqb}
 use Rattle.forest.specs.Forests.{Forest, Lawful}
 use Rattle.forest.specs.SplitSets.{Set, Subset, Closed, Mergeable, Unsplit, none, del, one_or_two, diamond_size, merged, count}

@@ -1,4 +1,6 @@
 // Crack-free triangle meshes of a terrain square: forced splits, merges, and the index list.
+#![tactic(auto)]
+
 pub mod fault;
 pub mod mesh;
 #[cfg(test)]

@@ -1,4 +1,6 @@
 // Runs a script of calls on the library and prints an answer a line. Nothing is decided here: words are read, calls made, answers printed.
+#![tactic(auto)]
+
 mod answer;
 mod lines;
 mod refusal;

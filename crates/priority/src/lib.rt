@@ -1,4 +1,6 @@
 // Five priority rules.
+#![tactic(auto)]
+
 pub mod camera_rule;
 pub mod level_rule;
 pub mod sight_line;

@@ -1,4 +1,6 @@
 // A studio's own rule, tried on a small map.
+#![tactic(auto)]
+
 use bintree::point::Point;
 use policy::policy::Policy;
 use priority::stored::Stored;

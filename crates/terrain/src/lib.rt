@@ -1,4 +1,6 @@
 // Terrain: drafts of heights, maps with the bounds of their triangles, and carving.
+#![tactic(auto)]
+
 mod cover;
 pub mod draft;
 pub mod fault;

@@ -17,12 +17,12 @@ returns-else-self-eq2 t c = record {
 
 pub returns-then-self-eq0 : goal.returns-then-self-eq0
 returns-then-self-eq0 t c = let p = c.in-Some.ensures in record {
-  value = c.low-half.ensures ∙ corners_even c.args.self.order.n c.args.self.number _ _ c.corners-whole.result p.0 (omega arith) p.1 p.2 c.corners-whole.ensures.value;
+  value = c.low_half.ensures ∙ corners_even c.args.self.order.n c.args.self.number _ _ c.corners-whole.result p.0 (omega arith) p.1 p.2 c.corners-whole.ensures.value;
   laws = corner_laws c.args.self.order.n;
 }
 
 pub returns-else-self-eq0 : goal.returns-else-self-eq0
 returns-else-self-eq0 t c = let p = c.in-Some.ensures in record {
-  value = c.high-half.ensures ∙ corners_odd c.args.self.order.n c.args.self.number _ _ c.corners-whole.result p.0 c.if-self-eq0.false p.1 p.2 c.corners-whole.ensures.value;
+  value = c.high_half.ensures ∙ corners_odd c.args.self.order.n c.args.self.number _ _ c.corners-whole.result p.0 c.if-self-eq0.false p.1 p.2 c.corners-whole.ensures.value;
   laws = corner_laws c.args.self.order.n;
 }

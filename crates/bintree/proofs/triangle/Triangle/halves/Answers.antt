@@ -2,17 +2,17 @@ use Rattle.std.proofs.Common.{arith}
 use Rattle.bintree.proofs.Numbers.{end_twice}
 use Rattle.bintree.proofs.triangle.Triangle.halves.Goals as goal
 
-pub overflow-mul-low : goal.overflow-mul-low
-overflow-mul-low c = omega arith
+pub overflow_mul-low : goal.overflow_mul-low
+overflow_mul-low c = omega arith
 
-pub overflow-mul-high : goal.overflow-mul-high
-overflow-mul-high c = omega arith
+pub overflow_mul-high : goal.overflow_mul-high
+overflow_mul-high c = omega arith
 
-pub overflow-add-high : goal.overflow-add-high
-overflow-add-high c = omega arith
+pub overflow_add-high : goal.overflow_add-high
+overflow_add-high c = omega arith
 
-pub invariant-of-low : goal.invariant-of-low
-invariant-of-low c = (omega arith, (omega (arith, end_twice c.args.self.order.n), tt))
+pub invariant_of-low : goal.invariant_of-low
+invariant_of-low c = record { low = omega arith; high = omega (arith, end_twice c.args.self.order.n) }
 
-pub invariant-of-high : goal.invariant-of-high
-invariant-of-high c = (omega arith, (omega (arith, end_twice c.args.self.order.n), tt))
+pub invariant_of-high : goal.invariant_of-high
+invariant_of-high c = record { low = omega arith; high = omega (arith, end_twice c.args.self.order.n) }

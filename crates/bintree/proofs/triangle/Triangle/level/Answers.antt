@@ -4,8 +4,8 @@ use Rattle.bintree.proofs.Laws.{level_laws}
 use Rattle.bintree.proofs.Levels.{level_read}
 use Rattle.bintree.proofs.triangle.Triangle.level.Goals as goal
 
-pub overflow-sub-result : goal.overflow-sub-result
-overflow-sub-result c = omega (arith, (level_read c.args.self.number (omega arith) (omega (arith, end_bound c.args.self.order.n (omega arith)))).0)
+pub overflow_sub-result : goal.overflow_sub-result
+overflow_sub-result c = omega (arith, (level_read c.args.self.number (omega arith) (omega (arith, end_bound c.args.self.order.n (omega arith)))).0)
 
 pub returns : goal.returns
 returns c = record {
