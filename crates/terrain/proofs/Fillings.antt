@@ -1,8 +1,8 @@
 -- Filling from a source: the map that it describes, the test of its bounds, and why a map is given exactly if they cover.
-use Rattle.std.proofs.Common.{◌≡◌, ℕ, ◌+◌, ◌*◌, ◌<◌, ◌≤◌, max, Bool, true, false, cond, ◌&&◌, ◌||◌, eqb, ltb, leb, ◌⊎◌, List, [], ◌∷◌, length, get_or, set, sym, refl, ap, ◌∙◌, subst, inl, inr, ⊎_elim, arith}
+use Rattle.std.proofs.Common.{◌≡◌, ℕ, ◌+◌, ◌*◌, ◌<◌, ◌≤◌, max, Bool, true, false, cond, ◌&&◌, ◌||◌, eqb, ltb, leb, ◌⊎◌, List, [], ◌∷◌, length, get_or, set, sym, ap, ◌∙◌, subst, inl, inr, ⊎_elim, arith}
 use mathlib.Core.Path.{fun_ext}
 use Rattle.std.proofs.lemmas.List.{get_or-set_same, get_or-set_other}
-use Rattle.std.proofs.lemmas.Bool.{cases_Bool, cases_lt, cases_eq, both_ways, and_parts, and_from, and_left, or_left, or_right, or_from, or_parts, or_cases, ltb-true, ltb-false, leb-true, le-leb, lt-leb, lt-ltb, le-ltb, cond-true, cond-false, eq-eqb, ne_eqb, eqb-true}
+use Rattle.std.proofs.lemmas.Bool.{cases_Bool, cases_lt, cases_eq, both_ways, and_parts, and_from, and_left, or_from, or_parts, ltb-true, ltb-false, leb-true, le-leb, lt-leb, lt-ltb, le-ltb, cond-true, cond-false, eq-eqb, ne_eqb, eqb-true}
 use Rattle.bintree.specs.declared.point.Point.{Point}
 use Rattle.bintree.specs.declared.point.Corners.{Corners}
 use Rattle.bintree.specs.Orders.{side, end, first_finest, is_triangle, is_splittable}
@@ -11,10 +11,10 @@ use Rattle.bintree.specs.Refusals.{given, refused, refusal}
 use Rattle.bintree.proofs.Numbers.{end_twice}
 use Rattle.bintree.proofs.Shape.{point_eq}
 use Rattle.terrain.specs.Heights.{Heights, is_sample}
-use Rattle.terrain.specs.Bounds.{Bounds, apart, offset, limit, Covers}
+use Rattle.terrain.specs.Bounds.{Bounds, apart, offset, limit}
 use Rattle.terrain.specs.Grounds.{Ground}
 use Rattle.terrain.specs.Laws.{Covered}
-use Rattle.terrain.specs.Filling.{sampled, bounding, described, least_bound, breaks_rule, lowest_breaking, filling_to, filling, Keeps, BreaksFirst, FillLaws}
+use Rattle.terrain.specs.Filling.{sampled, bounding, described, least_bound, breaks_rule, lowest_breaking, filling_to, filling, Keeps, FillLaws}
 use Rattle.terrain.proofs.Holding.{corners_in_square}
 use Rattle.terrain.specs.Tables.{place, heights_in, bounds_in}
 use Rattle.terrain.proofs.Highest.{triangle_low, triangle_high, is_tri}

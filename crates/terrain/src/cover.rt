@@ -11,7 +11,7 @@ use bintree::triangle::Triangle;
 
 // The bound of a triangle; a finest one has none but 0.
 pub(crate) fn bound_of<S: Relief>(source: &S, t: Triangle) -> u32
-    ensures { result ≡ bounding (order_of t) (bounds source.now) (number_of t) }
+    ensures { result ≡ bounding (order_of t) (S.bounds source.now) (number_of t) }
 {
     match t.halves() {
         None => 0,
@@ -22,7 +22,7 @@ pub(crate) fn bound_of<S: Relief>(source: &S, t: Triangle) -> u32
 // The offset of a splittable triangle, in half height units.
 fn offset<S: Relief>(source: &S, t: Triangle) -> u32
     requires { number_of t < first_finest (order_of t) }
-    ensures value { result ≡ offset_of (order_of t) (sampled (order_of t) (heights source.now)) (number_of t) }
+    ensures value { result ≡ offset_of (order_of t) (sampled (order_of t) (S.heights source.now)) (number_of t) }
     ensures bound { result ≤ 131070 }
 {
     let ends = t.corners();
@@ -35,7 +35,7 @@ fn offset<S: Relief>(source: &S, t: Triangle) -> u32
 // Whether the bound of a splittable triangle breaks a rule.
 fn breaks<S: Relief>(source: &S, t: Triangle) -> bool
     requires { number_of t < first_finest (order_of t) }
-    ensures { result ≡ breaks_rule (described (order_of t) (heights source.now) (bounds source.now)) (number_of t) }
+    ensures { result ≡ breaks_rule (described (order_of t) (S.heights source.now) (S.bounds source.now)) (number_of t) }
 {
     let halves = t.halves().unwrap();
     let bound = bound_of(source, t);
@@ -47,8 +47,8 @@ fn breaks<S: Relief>(source: &S, t: Triangle) -> bool
 // Looks for the lowest-numbered triangle whose bound breaks a rule: refusal 6.
 pub(crate) fn check<S: Relief>(order: Order, source: &S) -> Result<(), CoverFault>
     ensures { MatchResult result
-        (λ _. lowest_breaking (described (order_value order) (heights source.now) (bounds source.now)) ≡ 0)
-        (λ fault. (0 < fault.triangle) × (fault.triangle ≡ lowest_breaking (described (order_value order) (heights source.now) (bounds source.now)))) }
+        (λ _. lowest_breaking (described (order_value order) (S.heights source.now) (S.bounds source.now)) ≡ 0)
+        (λ fault. (0 < fault.triangle) × (fault.triangle ≡ lowest_breaking (described (order_value order) (S.heights source.now) (S.bounds source.now)))) }
 {
     for number in 2..order.first_finest() {
         let t = order.triangle(number).unwrap();

@@ -14,9 +14,9 @@ impl Map {
     // Makes this the map of the given order that a source describes, with the source's bounds and not the measured ones; or refusal 6 where
     // they do not cover, and nothing changes.
     pub fn fill<S: Relief>(&mut self, order: Order, source: &S) -> Result<(), CoverFault>
-        ensures answer { told (λ _. map_view self.new) cover_refusal result ≡ filling (order_value order) (heights source.now) (bounds source.now) }
-        ensures after { map_view self.new ≡ left_by (filling (order_value order) (heights source.now) (bounds source.now)) (map_view self.old) }
-        ensures laws { FillLaws (order_value order) (heights source.now) (bounds source.now) }
+        ensures answer { told (λ _. map_view self.new) cover_refusal result ≡ filling (order_value order) (S.heights source.now) (S.bounds source.now) }
+        ensures after { map_view self.new ≡ left_by (filling (order_value order) (S.heights source.now) (S.bounds source.now)) (map_view self.old) }
+        ensures laws { FillLaws (order_value order) (S.heights source.now) (S.bounds source.now) }
     {
         check(order, source)?;
         self.table.fill(order, source);

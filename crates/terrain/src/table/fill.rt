@@ -13,7 +13,7 @@ use bintree::point::Point;
 
 fn fill_heights<S: Relief>(rows: &mut [u16], order: Order, source: &S)
     requires { length rows.old ≡ 4225 }
-    ensures { heights_in (order_value order) rows.new ≡ sampled (order_value order) (heights source.now) }
+    ensures { heights_in (order_value order) rows.new ≡ sampled (order_value order) (S.heights source.now) }
 {
     let end = order.side() + 1;
     for y in 0..end {
@@ -25,7 +25,7 @@ fn fill_heights<S: Relief>(rows: &mut [u16], order: Order, source: &S)
 
 fn fill_bounds<S: Relief>(table: &mut [u32], order: Order, source: &S)
     requires { length table.old ≡ 16384 }
-    ensures { bounds_in (order_value order) table.new ≡ bounding (order_value order) (bounds source.now) }
+    ensures { bounds_in (order_value order) table.new ≡ bounding (order_value order) (S.bounds source.now) }
 {
     for number in 2..order.end() {
         let t = order.triangle(number).unwrap();

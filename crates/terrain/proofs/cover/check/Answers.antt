@@ -1,7 +1,7 @@
 -- Each number in turn is a triangle; the first that breaks a rule is the lowest.
-use Rattle.std.proofs.Common.{◌≡◌, ℕ, ◌<◌, ◌≤◌, true, false, sym, ap, ◌∙◌, ap₂, arith}
+use Rattle.std.proofs.Common.{◌≡◌, ℕ, true, sym, ◌∙◌, ap₂, arith}
 use Rattle.std.proofs.lemmas.Bool.{some_since, both_ways}
-use Rattle.bintree.specs.Orders.{end, first_finest, is_triangle}
+use Rattle.bintree.specs.Orders.{is_triangle}
 use Rattle.bintree.proofs.Numbers.{end_twice}
 use Rattle.terrain.specs.Filling.{described, breaks_rule}
 use Rattle.terrain.proofs.Highest.{is_tri}

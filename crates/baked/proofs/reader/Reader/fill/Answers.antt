@@ -10,34 +10,34 @@ use Rattle.baked.specs.Views.{file_of, trailer_view, sections_view}
 use Rattle.baked.proofs.Files.{file_laws, by_layers}
 use Rattle.baked.proofs.reader.Reader.fill.Goals as goal
 
-pub returns-in-err-sections : goal.returns-in-err-sections
-returns-in-err-sections c =
+pub returns-in_err-sections : goal.returns-in_err-sections
+returns-in_err-sections c =
     let bs = file_of c.args.self.now in
-    let p = err_from_is_err_and c.from-residual-in-err-sections.result c.from-residual-in-err-sections.ensures.1 in
-    let e = ap {A = FileFault} {B = Reply Ground} (λ f. refused (file_refusal f)) p.2 ∙ by_layers bs (trailer_view c.in-ok-trailer.trailer) (refused (sections_refusal c.in-err-sections.field-0.0)) c.in-ok-trailer.ensures.value c.in-err-sections.ensures in
+    let p = err_from_is_err_and c.from_residual-in_err-sections.result c.from_residual-in_err-sections.ensures.1 in
+    let e = ap {A = FileFault} {B = Reply Ground} (λ f. refused (file_refusal f)) p.2 ∙ by_layers bs (trailer_view c.in_ok-trailer.trailer) (refused (sections_refusal c.in_err-sections.field-0.0)) c.in_ok-trailer.ensures.value c.in_err-sections.ensures in
     record {
       answer = ap (told _ file_refusal) p.1 ∙ e;
       after = ap {A = Reply Ground} {B = Ground} (λ r. left_by r (map_view c.args.map.now)) e;
       laws = file_laws bs;
     }
 
-pub returns-in-err-load : goal.returns-in-err-load
-returns-in-err-load c =
+pub returns-in_err-load : goal.returns-in_err-load
+returns-in_err-load c =
     let bs = file_of c.args.self.now in
-    let p = err_from_is_err_and c.from-residual-in-err-load.result c.from-residual-in-err-load.ensures.1 in
-    let l = by_layers bs (trailer_view c.in-ok-trailer.trailer) (given (sections_view c.in-ok-sections.sections)) c.in-ok-trailer.ensures.value c.in-ok-sections.ensures in
+    let p = err_from_is_err_and c.from_residual-in_err-load.result c.from_residual-in_err-load.ensures.1 in
+    let l = by_layers bs (trailer_view c.in_ok-trailer.trailer) (given (sections_view c.in_ok-sections.sections)) c.in_ok-trailer.ensures.value c.in_ok-sections.ensures in
     record {
-      answer = ap (told _ file_refusal) p.1 ∙ (ap {A = FileFault} {B = Reply Ground} (λ f. refused (file_refusal f)) p.2 ∙ (c.in-err-load.ensures.answer ∙ l));
-      after = c.in-err-load.ensures.after ∙ ap {A = Reply Ground} {B = Ground} (λ r. left_by r (map_view c.args.map.now)) l;
+      answer = ap (told _ file_refusal) p.1 ∙ (ap {A = FileFault} {B = Reply Ground} (λ f. refused (file_refusal f)) p.2 ∙ (c.in_err-load.ensures.answer ∙ l));
+      after = c.in_err-load.ensures.after ∙ ap {A = Reply Ground} {B = Ground} (λ r. left_by r (map_view c.args.map.now)) l;
       laws = file_laws bs;
     }
 
 pub returns : goal.returns
 returns c =
     let bs = file_of c.args.self.now in
-    let l = by_layers bs (trailer_view c.in-ok-trailer.trailer) (given (sections_view c.in-ok-sections.sections)) c.in-ok-trailer.ensures.value c.in-ok-sections.ensures in
+    let l = by_layers bs (trailer_view c.in_ok-trailer.trailer) (given (sections_view c.in_ok-sections.sections)) c.in_ok-trailer.ensures.value c.in_ok-sections.ensures in
     record {
-      answer = c.in-ok-load.ensures.answer ∙ l;
-      after = c.in-ok-load.ensures.after ∙ ap {A = Reply Ground} {B = Ground} (λ r. left_by r (map_view c.args.map.now)) l;
+      answer = c.in_ok-load.ensures.answer ∙ l;
+      after = c.in_ok-load.ensures.after ∙ ap {A = Reply Ground} {B = Ground} (λ r. left_by r (map_view c.args.map.now)) l;
       laws = file_laws bs;
     }

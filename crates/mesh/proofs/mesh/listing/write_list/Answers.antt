@@ -21,10 +21,10 @@ pub loop-i-init : goal.loop-i-init
 loop-i-init c = (refl, refl)
 
 pub overflow-mul-count : goal.overflow-mul-count
-overflow-mul-count c = omega (arith, c.loop-i.invariant.0, count_bound (flagged c.args.present.now) c.loop-i.i, c.end-i-end.type-inv)
+overflow-mul-count c = omega (arith, c.loop-i.invariant.0, count_bound (flagged c.args.present.now) c.loop-i.i, c.end-i-end.type_inv)
 
 pub overflow-add-count : goal.overflow-add-count
-overflow-add-count c = omega (arith, c.loop-i.invariant.0, count_bound (flagged c.args.present.now) c.loop-i.i, c.end-i-end.type-inv)
+overflow-add-count c = omega (arith, c.loop-i.invariant.0, count_bound (flagged c.args.present.now) c.loop-i.i, c.end-i-end.type_inv)
 
 pub write-vertices-requires : goal.write-vertices-requires
 write-vertices-requires c =

@@ -9,7 +9,7 @@ use Rattle.terrain.proofs.draft.Draft.set.Goals as goal
 pub returns : goal.returns
 returns c =
     let d = c.args.self.now in
-    let k = c.in-ok-at.ensures in
+    let k = c.in_ok-at.ensures in
     let long : length (vec_items d.table.heights) ≡ 4225 = sym d.table.heights.ok.0 ∙ d.tall in
-    let told = sets d.order.n (vec_items d.table.heights) c.args.p c.args.z c.in-ok-at.at d.order.high long k.0 k.1 in
+    let told = sets d.order.n (vec_items d.table.heights) c.args.p c.args.z c.in_ok-at.at d.order.high long k.0 k.1 in
     record { answer = told; after = ap {A = Reply Sketch} {B = Sketch} (λ r. left_by r (draft_view d)) told }

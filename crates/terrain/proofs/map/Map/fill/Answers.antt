@@ -1,5 +1,5 @@
 -- Checked before anything is written: the source's map covers, or the map stays as it is.
-use Rattle.std.proofs.Common.{◌≡◌, sym, ap, ◌∙◌, subst}
+use Rattle.std.proofs.Common.{sym, ap, ◌∙◌, subst}
 use Rattle.std.proofs.lemmas.Result.{err_from_is_err_and}
 use Rattle.bintree.specs.Refusals.{Reply, given, refused, told}
 use Rattle.terrain.specs.declared.relief.CoverFault.{CoverFault}
@@ -10,28 +10,28 @@ use Rattle.terrain.specs.Views.{map_view}
 use Rattle.terrain.proofs.Fillings.{none_covered, fills, refuses, fill_laws}
 use Rattle.terrain.proofs.map.Map.fill.Goals as goal
 
-pub invariant-of-self : goal.invariant-of-self
-invariant-of-self g c =
+pub invariant_of-self : goal.invariant_of-self
+invariant_of-self g c =
     let k = subst Covered (sym c.fill.ensures.value)
-    (none_covered c.args.order.n (g.S.Relief.heights c.args.source.now) (g.S.Relief.bounds c.args.source.now) c.in-ok-check.ensures) in
-    (c.fill.ensures.tall, (c.fill.ensures.wide, (c.fill.ensures.roomy, (k.finest, (k.limited, (k.above, tt))))))
+    (none_covered c.args.order.n (g.S.Relief.heights c.args.source.now) (g.S.Relief.bounds c.args.source.now) c.in_ok-check.ensures) in
+    record { tall = c.fill.ensures.tall; wide = c.fill.ensures.wide; roomy = c.fill.ensures.roomy; finest = k.finest; limited = k.limited; above = k.above }
 
 pub returns : goal.returns
 returns g c =
     let n = c.args.order.n in
     let z = g.S.Relief.heights c.args.source.now in
     let b = g.S.Relief.bounds c.args.source.now in
-    let e = ap {A = Ground} {B = Reply Ground} given c.fill.ensures.value ∙ fills n z b c.in-ok-check.ensures in
+    let e = ap {A = Ground} {B = Reply Ground} given c.fill.ensures.value ∙ fills n z b c.in_ok-check.ensures in
     record { answer = e; after = ap {A = Reply Ground} {B = Ground} (λ r. left_by r (map_view c.args.self.now)) e; laws = fill_laws n z b }
 
-pub returns-in-err-check : goal.returns-in-err-check
-returns-in-err-check g c =
+pub returns-in_err-check : goal.returns-in_err-check
+returns-in_err-check g c =
     let n = c.args.order.n in
     let z = g.S.Relief.heights c.args.source.now in
     let b = g.S.Relief.bounds c.args.source.now in
-    let k = c.in-err-check.ensures in
-    let p = err_from_is_err_and c.from-residual.result c.from-residual.ensures.1 in
-    let e = ap {A = CoverFault} {B = Reply Ground} (λ f. refused (cover_refusal f)) p.2 ∙ refuses n z b c.in-err-check.field-0.0.triangle k.0 k.1 in
+    let k = c.in_err-check.ensures in
+    let p = err_from_is_err_and c.from_residual.result c.from_residual.ensures.1 in
+    let e = ap {A = CoverFault} {B = Reply Ground} (λ f. refused (cover_refusal f)) p.2 ∙ refuses n z b c.in_err-check.field-0.0.triangle k.0 k.1 in
     record {
       answer = ap (told _ cover_refusal) p.1 ∙ e;
       after = ap {A = Reply Ground} {B = Ground} (λ r. left_by r (map_view c.args.self.now)) e;

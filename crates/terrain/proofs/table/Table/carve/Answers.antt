@@ -17,10 +17,10 @@ pub returns-then-passing-gt0 : goal.returns-then-passing-gt0
 returns-then-passing-gt0 c =
     let n = c.args.order.n in
     let t = c.args.self.now in
-    let k = c.in-ok-at.ensures in
+    let k = c.in_ok-at.ensures in
     let long : length (vec_items t.heights) ≡ 4225 = sym t.heights.ok.0 ∙ c.requires.tall in
-    let told = refuses n (vec_items t.heights) (vec_items t.bounds) c.args.p c.args.z c.in-ok-at.at c.args.order.high long k.0 k.1 _
-    (rw (c.as-slice.ensures.value, c.as-slice-2.ensures.value) at c.settle-all-passing.ensures.passing) (λ e. omega arith) in
+    let told = refuses n (vec_items t.heights) (vec_items t.bounds) c.args.p c.args.z c.in_ok-at.at c.args.order.high long k.0 k.1 _
+    (rw (c.as_slice.ensures.value, c.as_slice-2.ensures.value) at c.settle_all-passing.ensures.passing) (λ e. omega arith) in
     record {
       tall = c.requires.tall;
       wide = c.requires.wide;
@@ -34,18 +34,18 @@ pub returns : goal.returns
 returns c =
     let n = c.args.order.n in
     let t = c.args.self.now in
-    let k = c.in-ok-at.ensures in
+    let k = c.in_ok-at.ensures in
     let long : length (vec_items t.heights) ≡ 4225 = sym t.heights.ok.0 ∙ c.requires.tall in
-    let new = c.settle-all-passing.new.scratch in
-    let swapped : vec_items c.swap.new.x ≡ new = ap vec_items c.swap.ensures.x-after ∙ with_items_is t.scratch new (omega arith) in
-    let told = carves n (vec_items t.heights) (vec_items t.bounds) c.args.p c.args.z c.in-ok-at.at c.args.order.high long k.0 k.1
+    let new = c.settle_all-passing.new.scratch in
+    let swapped : vec_items c.swap.new.x ≡ new = ap vec_items c.swap.ensures.x_after ∙ with_items_is t.scratch new (omega arith) in
+    let told = carves n (vec_items t.heights) (vec_items t.bounds) c.args.p c.args.z c.in_ok-at.at c.args.order.high long k.0 k.1
     (vec_items c.swap.new.x) _
-    (ap (bounds_in n) swapped ∙ (rw (c.as-slice.ensures.value, c.as-slice-2.ensures.value) at c.settle-all-passing.ensures.bounds))
-    (rw (c.as-slice.ensures.value, c.as-slice-2.ensures.value) at c.settle-all-passing.ensures.passing) (omega arith) in
+    (ap (bounds_in n) swapped ∙ (rw (c.as_slice.ensures.value, c.as_slice-2.ensures.value) at c.settle_all-passing.ensures.bounds))
+    (rw (c.as_slice.ensures.value, c.as_slice-2.ensures.value) at c.settle_all-passing.ensures.passing) (omega arith) in
     record {
       tall = c.requires.tall;
-      wide = ap vec_len c.swap.ensures.x-after ∙ c.requires.roomy;
-      roomy = ap vec_len c.swap.ensures.y-after ∙ c.requires.wide;
+      wide = ap vec_len c.swap.ensures.x_after ∙ c.requires.roomy;
+      roomy = ap vec_len c.swap.ensures.y_after ∙ c.requires.wide;
       answer = told;
       after = ap {A = Reply Ground} {B = Ground} (λ r. left_by r (table_view n t)) told;
     }

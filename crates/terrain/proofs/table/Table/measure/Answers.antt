@@ -9,10 +9,10 @@ use Rattle.terrain.proofs.Places.{bounds_blank}
 use Rattle.terrain.proofs.Due.{new_measured}
 use Rattle.terrain.proofs.table.Table.measure.Goals as goal
 
-pub settle-all-requires : goal.settle-all-requires
-settle-all-requires c =
+pub settle_all-requires : goal.settle_all-requires
+settle_all-requires c =
     let n = c.args.order.n in
-    let zeros : c.as-slice-2.result.now ≡ replicate 16384 0 = c.as-slice-2.ensures.value ∙ (c.fill.ensures.items (λ y e. e) ∙ ap (λ k. replicate k 0) c.requires.wide) in
+    let zeros : c.as_slice-2.result.now ≡ replicate 16384 0 = c.as_slice-2.ensures.value ∙ (c.fill.ensures.items (λ y e. e) ∙ ap (λ k. replicate k 0) c.requires.wide) in
     record {
       tall = search rules;
       wide = search rules;
@@ -24,16 +24,16 @@ pub returns : goal.returns
 returns c =
     let n = c.args.order.n in
     let m = c.args.self.now in
-    let zeros : c.as-slice-2.result.now ≡ replicate 16384 0 = c.as-slice-2.ensures.value ∙ (c.fill.ensures.items (λ y e. e) ∙ ap (λ k. replicate k 0) c.requires.wide) in
-    let new = c.settle-all.new.scratch in
-    let swapped : vec_items c.swap.new.x ≡ new = ap vec_items c.swap.ensures.x-after ∙ with_items_is m.scratch new (omega arith) in
+    let zeros : c.as_slice-2.result.now ≡ replicate 16384 0 = c.as_slice-2.ensures.value ∙ (c.fill.ensures.items (λ y e. e) ∙ ap (λ k. replicate k 0) c.requires.wide) in
+    let new = c.settle_all.new.scratch in
+    let swapped : vec_items c.swap.new.x ≡ new = ap vec_items c.swap.ensures.x_after ∙ with_items_is m.scratch new (omega arith) in
     let P : List ℕ → Type 0 = λ l. (p : Point) → heights_in n l p ≤ 65535 in
     record {
       tall = c.requires.tall;
-      wide = ap vec_len c.swap.ensures.x-after ∙ c.requires.roomy;
-      roomy = ap vec_len c.swap.ensures.y-after ∙ (c.fill.ensures.len ∙ c.requires.wide);
+      wide = ap vec_len c.swap.ensures.x_after ∙ c.requires.roomy;
+      roomy = ap vec_len c.swap.ensures.y_after ∙ (c.fill.ensures.len ∙ c.requires.wide);
       heights = refl;
-      bounds = ap (bounds_in n) swapped ∙ (c.settle-all.ensures.bounds
-          ∙ (new_measured n _ _ (ap (bounds_in n) zeros ∙ bounds_blank n 16384) ∙ ap (λ (l : List ℕ). measured n (heights_in n l)) c.as-slice.ensures.value));
-      laws = measure_laws _ c.args.order.high (subst P c.as-slice.ensures.value c.settle-all.ensures.small);
+      bounds = ap (bounds_in n) swapped ∙ (c.settle_all.ensures.bounds
+          ∙ (new_measured n _ _ (ap (bounds_in n) zeros ∙ bounds_blank n 16384) ∙ ap (λ (l : List ℕ). measured n (heights_in n l)) c.as_slice.ensures.value));
+      laws = measure_laws _ c.args.order.high (subst P c.as_slice.ensures.value c.settle_all.ensures.small);
     }

@@ -3,8 +3,8 @@ use Rattle.std.proofs.Common.{rules}
 use Rattle.std.proofs.lemmas.Result.{IfOk-from_err}
 use Rattle.terrain.proofs.table.Table.new.Goals as goal
 
-pub returns-in-err-bounds : goal.returns-in-err-bounds
-returns-in-err-bounds c = search (rules, IfOk-from_err)
+pub returns-in_err-bounds : goal.returns-in_err-bounds
+returns-in_err-bounds c = search (rules, IfOk-from_err)
 
-pub returns-in-err-scratch : goal.returns-in-err-scratch
-returns-in-err-scratch c = search (rules, IfOk-from_err)
+pub returns-in_err-scratch : goal.returns-in_err-scratch
+returns-in_err-scratch c = search (rules, IfOk-from_err)

@@ -1,6 +1,5 @@
 -- One sample more, and at the end all of them.
-use Rattle.std.proofs.Common.{refl, arith}
-use Rattle.bintree.proofs.Sizes.{side_bound}
+use Rattle.std.proofs.Common.{arith}
 use Rattle.terrain.proofs.Fillings.{rows_put, rows_all}
 use Rattle.terrain.proofs.table.fill.fill_heights.Goals as goal
 

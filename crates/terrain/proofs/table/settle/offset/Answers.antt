@@ -8,8 +8,8 @@ use Rattle.terrain.proofs.Options.{promised}
 use Rattle.terrain.proofs.Places.{offset_is}
 use Rattle.terrain.proofs.table.settle.offset.Goals as goal
 
-pub height-at-twice-requires : goal.height-at-twice-requires
-height-at-twice-requires c =
+pub height_at-twice-requires : goal.height_at-twice-requires
+height_at-twice-requires c =
     let w = corners_in_square c.args.t.order.n c.args.t.number in
     let s = side_bound c.args.t.order.n c.args.t.order.high in
     let e = (promised _ _ _ _ c.unwrap-centre.ensures c.centre.ensures.value).1 in
@@ -17,8 +17,8 @@ height-at-twice-requires c =
     let y = ap (λ (p : Point). p.y) e in
     record { tall = c.requires.tall; x = omega arith; y = omega arith }
 
-pub height-at-requires : goal.height-at-requires
-height-at-requires c =
+pub height_at-requires : goal.height_at-requires
+height_at-requires c =
     let w = corners_in_square c.args.t.order.n c.args.t.number in
     let s = side_bound c.args.t.order.n c.args.t.order.high in
     let e = c.corners-ends.ensures.value in
@@ -26,8 +26,8 @@ height-at-requires c =
     let y = ap (λ (t : Corners). t.left.y) e in
     record { tall = c.requires.tall; x = omega arith; y = omega arith }
 
-pub height-at-requires-2 : goal.height-at-requires-2
-height-at-requires-2 c =
+pub height_at-requires-2 : goal.height_at-requires-2
+height_at-requires-2 c =
     let w = corners_in_square c.args.t.order.n c.args.t.number in
     let s = side_bound c.args.t.order.n c.args.t.order.high in
     let e = c.corners-ends.ensures.value in
@@ -37,8 +37,8 @@ height-at-requires-2 c =
 
 pub returns : goal.returns
 returns c = record {
-  value = c.abs-diff.ensures
+  value = c.abs_diff.ensures
       ∙ offset_is c.args.t.order.n c.args.t.number c.args.heights.now c.corners-ends.result c.unwrap-centre.result _ _ _
-      c.corners-ends.ensures.value (promised _ _ _ _ c.unwrap-centre.ensures c.centre.ensures.value).1 c.height-at-twice.ensures.value c.height_at.ensures.value c.height-at-2.ensures.value;
-  bound = omega (arith, c.abs-diff.ensures, c.height-at-twice.ensures.bound, c.height_at.ensures.bound, c.height-at-2.ensures.bound);
+      c.corners-ends.ensures.value (promised _ _ _ _ c.unwrap-centre.ensures c.centre.ensures.value).1 c.height_at-twice.ensures.value c.height_at.ensures.value c.height_at-2.ensures.value;
+  bound = omega (arith, c.abs_diff.ensures, c.height_at-twice.ensures.bound, c.height_at.ensures.bound, c.height_at-2.ensures.bound);
 }

@@ -3,8 +3,8 @@ use Rattle.std.proofs.Common.{ℕ, ◌+◌, arith}
 use Rattle.std.proofs.lemmas.Nat.{mul-le}
 use Rattle.baked.proofs.table.load.TableRelief.height.Goals as goal
 
-pub overflow-mul-p-2 : goal.overflow-mul-p-2
-overflow-mul-p-2 c = omega (arith, mul-le c.args.p.y (c.side.result + 1) 4294967295 65 (omega arith) (omega arith))
+pub overflow_mul-p-2 : goal.overflow_mul-p-2
+overflow_mul-p-2 c = omega (arith, mul-le c.args.p.y (c.side.result + 1) 4294967295 65 (omega arith) (omega arith))
 
-pub short-at-requires : goal.short-at-requires
-short-at-requires c = omega (arith, mul-le c.args.p.y (c.side.result + 1) 4294967295 65 (omega arith) (omega arith))
+pub short_at-requires : goal.short_at-requires
+short_at-requires c = omega (arith, mul-le c.args.p.y (c.side.result + 1) 4294967295 65 (omega arith) (omega arith))
