@@ -1,5 +1,5 @@
--- The bridge over the trees: a mesh is crack_free exactly if it splits neighbours across a base together.
--- From a crack_free mesh: the centre of a split triangle is a corner of a member; were its partner not split, that corner would lie within an edge.
+-- The bridge over the trees: a mesh is crack-free exactly if it splits neighbours across a base together.
+-- From a crack-free mesh: the centre of a split triangle is a corner of a member; were its partner not split, that corner would lie within an edge.
 -- Back: a corner within an edge of a member T is the centre of a triangle in T and of one that the mesh splits; these are equal or partners.
 use Rattle.std.proofs.Common.{◌≡◌, ℕ, zero, suc, ◌+◌, ◌-◌, ◌*◌, ◌^◌, ◌<◌, ◌≤◌, Bool, true, false, T, ◌⊎◌, sym, refl, ap, ◌∙◌, subst, inl, inr, arith, pow_pos}
 use Rattle.bintree.specs.declared.point.Point.{Point}
@@ -113,7 +113,7 @@ has_corner n P M j s =
 some_inj : (u v : Node) → some u ≡ some v → u ≡ v
 some_inj u v e = cc
 
--- no triangle of a crack_free mesh lies over the neighbour across the base of a split one
+-- no triangle of a crack-free mesh lies over the neighbour across the base of a split one
 no_cover : (n : ℕ) (P : Node → Bool) → Mesh n P → CrackFree n P → (j i q : Node) → (around j).base ≡ some i → Splits P j → T (P q) → Under q i → ⊥
 unfolding Across Meets
 no_cover n P M C j i q e s hq u = go (edges n q i u (omega (arith, h))).base
@@ -135,7 +135,7 @@ no_cover n P M C j i q e s hq u = go (edges n q i u (omega (arith, h))).base
         (subst (λ (v : Point). OnEdge v (place (2 ^ n) q)) (shared_centre (2 ^ n) j i w)
         (between_of _ _ (centre (place (2 ^ n) i)) _ x.on_x x.on_y z))
 
--- the bridge, one way: a crack_free mesh splits partners together
+-- the bridge, one way: a crack-free mesh splits partners together
 pub crack_free_closed : (n : ℕ) (P : Node → Bool) → Mesh n P → CrackFree n P → Closed P
 crack_free_closed n P M C j i e s = go (comparable i (M.owner z.0 z.1) z.0 z.2 (M.owner_over z.0 z.1))
   where

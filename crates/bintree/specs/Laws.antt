@@ -66,7 +66,7 @@ pub record SampleLaws (n : ℕ) : Type 0 where
   pub corner_or_centre : (i : ℕ) (v : Point) → 2 ≤ i → i < end n →
       LiesIn v (corners n i) → Corner v (corners n i) ⊎ CentreBelow n v i
 
--- The bridge: a mesh is crack_free if and only if, with every triangle, it splits that triangle's partner.
+-- The bridge: a mesh is crack-free if and only if, with every triangle, it splits that triangle's partner.
 pub record Bridge (n : ℕ) : Type 0 where
   pub closed : (P : Triangles) → IsMesh n P → CrackFree n P → SplitsPartners n P
   pub crack_free : (P : Triangles) → IsMesh n P → SplitsPartners n P → CrackFree n P

@@ -22,7 +22,7 @@ add i S x = cond (x == i) true (S x)
 abbrev pub del : ℕ → Set → Set
 del i S x = cond (x == i) false (S x)
 
--- S is the split set of a crack_free mesh: it is closed, that is, it holds splittable triangles only, and with a triangle its parent and its partner.
+-- S is the split set of a crack-free mesh: it is closed, that is, it holds splittable triangles only, and with a triangle its parent and its partner.
 pub record Closed (φ : Forest) (S : Set) : Type 0 where
   pub range : (i : ℕ) → S i ≡ true → (φ.roots ≤ i) × (i < φ.finest)
   pub up : (i : ℕ) → S i ≡ true → 2 * φ.roots ≤ i → S (i / 2) ≡ true

@@ -1,4 +1,4 @@
--- The facts that a mesh value carries, no hole, no overlap and no crack, are those of a crack_free mesh. A finest triangle in no hole lies in some triangle, which is found by
+-- The facts that a mesh value carries, no hole, no overlap and no crack, are those of a crack-free mesh. A finest triangle in no hole lies in some triangle, which is found by
 -- going up from it: that is a search of known length, so "not none" gives one.
 use Rattle.std.proofs.Common.{◌≡◌, ℕ, zero, suc, ◌/◌, ◌<◌, ◌≤◌, true, false, ◌⊎◌, sym, subst, inl, inr, arith}
 use Rattle.std.proofs.lemmas.Bool.{cases_Bool, cases_eq, both_ways}
@@ -65,12 +65,19 @@ module _ (n : ℕ) (P : Triangles) (g : Guarded n P) where
 
 -- the same facts as the prover asks for them of a mesh value with `len` flags
 abbrev pub Carried : ℕ → ℕ → Triangles → Type 0
-Carried len n P =
-    (len ≡ 16384) × (((i : ℕ) → P i ≡ true → (2 ≤ i) × (i < end n)) × ((Hole n P → ⊥) × ((Overlap n P → ⊥) × ((Crack n P → ⊥) × Unit {0}))))
+Carried len n P = record {
+  room : len ≡ 16384;
+  inside : (i : ℕ) → P i ≡ true → (2 ≤ i) × (i < end n);
+  no_hole : Hole n P → ⊥;
+  no_overlap : Overlap n P → ⊥;
+  no_crack : Crack n P → ⊥;
+}
 
 pub carried : (len n : ℕ) (P : Triangles) → len ≡ 16384 → CrackFreeMesh n P → Carried len n P
-carried len n P e w = let g = guarded n P w in (e, (g.inside, (g.without_hole, (g.without_overlap, (g.without_crack, tt)))))
+carried len n P e w =
+    let g = guarded n P w in
+    record { room = e; inside = g.inside; no_hole = g.without_hole; no_overlap = g.without_overlap; no_crack = g.without_crack }
 
--- a mesh value is a crack_free mesh
+-- a mesh value is a crack-free mesh
 pub mesh_value : (m : Mesh) → CrackFreeMesh (order_of m) (triangles_of m)
 mesh_value m = guarded_whole (order_of m) (triangles_of m) (record { inside = m.inside; without_hole = m.no_hole; without_overlap = m.no_overlap; without_crack = m.no_crack })

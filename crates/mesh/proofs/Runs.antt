@@ -1,4 +1,4 @@
--- Every list of calls from a new mesh leaves a crack_free mesh of its order: each call keeps it so, and refused calls change nothing.
+-- Every list of calls from a new mesh leaves a crack-free mesh of its order: each call keeps it so, and refused calls change nothing.
 use Rattle.std.proofs.Common.{◌≡◌, ℕ, zero, suc, Bool, true, false, ltb, leb, List, [], ◌∷◌, sym, refl, subst, arith}
 use mathlib.Core.Path.{fun_ext}
 use Rattle.std.proofs.lemmas.Bool.{and_parts, leb-true, ltb-true, ne_eqb, le-leb, le-ltb}

@@ -1,4 +1,4 @@
--- What splits and merges do to crack_free meshes: read off the split sets.
+-- What splits and merges do to crack-free meshes: read off the split sets.
 use Rattle.std.proofs.Common.{◌≡◌, ℕ, ◌+◌, ◌*◌, ◌/◌, ◌<◌, ◌≤◌, Bool, true, false, ltb, ◌⊎◌, sym, refl, ap, ◌∙◌, subst, inl, inr, arith}
 use mathlib.Core.Path.{fun_ext}
 use Rattle.std.proofs.lemmas.Bool.{cases_lt, cases_eq, both_ways, lt-ltb}
@@ -39,7 +39,7 @@ module _ (n : ℕ) (S : Set) (c : Closed (square n) S) where
   lawful : Lawful (square n)
   lawful = square_lawful n
 
-  -- the least crack_free mesh
+  -- the least crack-free mesh
   least_split : (i : ℕ) (F : Set) → Forced (square n) S i F → LeastSplit n i (mesh (square n) S) (mesh (square n) F)
   least_split i F f = record {
     mesh = set_whole n F f.closed;
@@ -259,7 +259,7 @@ module _ (n : ℕ) (S : Set) (c : Closed (square n) S) (i : ℕ) (g : Mergeable 
             ∙ ap (λ (Q : Triangles). leaves (state n Q)) (split_is n M small i back_there u S again));
       }
 
--- of every crack_free mesh
+-- of every crack-free mesh
 pub splits_least : (n i : ℕ) (P : Triangles) → CrackFreeMesh n P → P i ≡ true → i < first_finest n → SplitLaws n i P (split n i P)
 splits_least n i P w t u =
     let m = whole_mesh n P w in

@@ -1,5 +1,5 @@
--- A crack_free mesh is the mesh of a closed set, and the mesh of every closed set is a crack_free mesh: the bridge, for the forest of the square.
-use Rattle.std.proofs.Common.{◌≡◌, ℕ, sym, subst}
+-- A crack-free mesh is the mesh of a closed set, and the mesh of every closed set is a crack-free mesh: the bridge, for the forest of the square.
+use Rattle.std.proofs.Common.{◌≡◌, ℕ}
 use Rattle.bintree.specs.Triangles.{partner}
 use Rattle.bintree.specs.Meshes.{Triangles}
 use Rattle.bintree.proofs.Bridge.{bridge}

@@ -6,12 +6,12 @@ use Rattle.bintree.specs.Meshes.{Triangles, Within, IsMesh, Splits, CrackFree}
 use Rattle.mesh.specs.Sets.{halve, holder, split, count}
 use Rattle.mesh.specs.Calls.{State, state, new_mesh, Call, run, leaves, split_call, merge_call}
 
--- P is a crack_free mesh of order n: each finest triangle lies in exactly one of its triangles, and no corner of one lies within an edge of another.
+-- P is a crack-free mesh of order n: each finest triangle lies in exactly one of its triangles, and no corner of one lies within an edge of another.
 pub record CrackFreeMesh (n : ℕ) (P : Triangles) : Type 0 where
   pub is_mesh : IsMesh n P
   pub crack_free : CrackFree n P
 
--- A mesh as the calls see it is sound if its order is 1 to 6 and it is a crack_free mesh of its order.
+-- A mesh as the calls see it is sound if its order is 1 to 6 and it is a crack-free mesh of its order.
 pub record Sound (s : State) : Type 0 where
   pub order : (1 ≤ s.order) × (s.order ≤ 6)
   pub mesh : CrackFreeMesh s.order s.mesh
@@ -24,7 +24,7 @@ RunsSound = (cs : List Call) → Sound (run new_mesh cs)
 abbrev pub SplitsAll : Triangles → Triangles → Type 0
 SplitsAll Q P = (j : ℕ) → Splits P j → Splits Q j
 
--- Splitting i in the crack_free mesh P gives Q: the least crack_free mesh that splits i and all that P splits. Every such mesh R splits all that Q splits, and has
+-- Splitting i in the crack-free mesh P gives Q: the least crack-free mesh that splits i and all that P splits. Every such mesh R splits all that Q splits, and has
 -- at least as many triangles.
 pub record LeastSplit (n i : ℕ) (P Q : Triangles) : Type 0 where
   pub mesh : CrackFreeMesh n Q
@@ -45,7 +45,7 @@ pub record Holds (n i : ℕ) (P : Triangles) (p h : ℕ) : Type 0 where
   pub splittable : h < first_finest n
   pub higher : level h < level i
 
--- The rule by which i is split in the crack_free mesh P, with no bound on a depth: Q is P with i halved, and its partner, where it has one; where the partner is absent, the
+-- The rule by which i is split in the crack-free mesh P, with no bound on a depth: Q is P with i halved, and its partner, where it has one; where the partner is absent, the
 -- triangle that holds it is split first, by this same rule.
 pub record SplitRule (n i : ℕ) (P Q : Triangles) : Type 0 where
   pub alone : partner n i ≡ 0 → Q ≡ halve i P
@@ -53,13 +53,13 @@ pub record SplitRule (n i : ℕ) (P Q : Triangles) : Type 0 where
   pub forced : 0 < partner n i → P (partner n i) ≡ false → Q ≡ halve i (halve (partner n i) (split n (holder P (partner n i)) P))
   pub holds : 0 < partner n i → P (partner n i) ≡ false → Holds n i P (partner n i) (holder P (partner n i))
 
--- Splitting i in the crack_free mesh P gave Q.
+-- Splitting i in the crack-free mesh P gave Q.
 pub record SplitLaws (n i : ℕ) (P Q : Triangles) : Type 0 where
   pub rule : SplitRule n i P Q
   pub least : LeastSplit n i P Q
   pub undone : (partner n i ≡ 0) ⊎ (P (partner n i) ≡ true) → Undone n i P Q
 
--- Merging the diamond of i in the crack_free mesh P gave Q, a crack_free mesh. That undid the split of the diamond's triangles, and nothing else; splitting i again
+-- Merging the diamond of i in the crack-free mesh P gave Q, a crack-free mesh. That undid the split of the diamond's triangles, and nothing else; splitting i again
 -- gives P back.
 pub record MergeLaws (n i : ℕ) (P Q : Triangles) : Type 0 where
   pub mesh : CrackFreeMesh n Q

@@ -10,7 +10,7 @@ mod flags;
 mod listing;
 mod reading;
 
-// A crack_free mesh of a terrain square: the square's order, and for each triangle number whether that triangle is in the mesh. The triangles cover the
+// A crack-free mesh of a terrain square: the square's order, and for each triangle number whether that triangle is in the mesh. The triangles cover the
 // square, do not overlap, and no corner of one lies within an edge of another.
 #[derive(Drop)]
 pub struct Mesh {

@@ -25,7 +25,7 @@ fn count_below(present: &[bool], end: u32) -> usize
 }
 
 impl Mesh {
-    // The order of the square. Every mesh is a crack_free mesh of its order.
+    // The order of the square. Every mesh is a crack-free mesh of its order.
     pub fn order(&self) -> Order
         ensures value { order_value result ≡ order_of self.now }
         ensures sound { Sound (state_of self.now) }

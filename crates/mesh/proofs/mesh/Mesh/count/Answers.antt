@@ -12,7 +12,7 @@ unfolding count listed
 returns c =
     let m = c.args.self.now in
     record {
-      value = c.count-below.ensures ∙ (ap (λ (b : ℕ). length (members (flagged c.as-slice.result.now) b)) c.end.ensures.value
-          ∙ ap (λ (l : List Bool). length (members (flagged l) (end (order_of m)))) c.as-slice.ensures.value);
+      value = c.count_below.ensures ∙ (ap (λ (b : ℕ). length (members (flagged c.as_slice.result.now) b)) c.end.ensures.value
+          ∙ ap (λ (l : List Bool). length (members (flagged l) (end (order_of m)))) c.as_slice.ensures.value);
       law = count_law (order_of m) (triangles_of m) (mesh_value m);
     }

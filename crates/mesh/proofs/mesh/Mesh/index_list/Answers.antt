@@ -28,21 +28,21 @@ unfolding list_call lists
 long n P b after r e h s =
     ap (listing (given r)) s ∙ (ap (λ (j : ℕ). listing (given j) (index_list n P ++ drop (3 * j) b)) e ∙ sym (ap (lists n P b) (le-leb (3 * count n P) (length b) h)))
 
-pub overflow-mul-places : goal.overflow-mul-places
-overflow-mul-places c = let m = c.args.self.now in omega (arith, c.count-places.ensures.value, count_small (order_of m) (triangles_of m) m.order.high)
+pub overflow_mul-places : goal.overflow_mul-places
+overflow_mul-places c = let m = c.args.self.now in omega (arith, c.count-places.ensures.value, count_small (order_of m) (triangles_of m) m.order.high)
 
 pub returns-then-buffer-places : goal.returns-then-buffer-places
 returns-then-buffer-places c =
     let m = c.args.self.now in
     short (order_of m) (triangles_of m) c.args.buffer.now _ (ap (λ (k : ℕ). 3 * k) c.count-places.ensures.value) c.if-buffer-places.true
 
-pub write-list-requires : goal.write-list-requires
+pub write_list-requires : goal.write_list-requires
 unfolding count listed
-write-list-requires c =
+write_list-requires c =
     let m = c.args.self.now in
-    let s = ap flagged c.as-slice.ensures.value in
+    let s = ap flagged c.as_slice.ensures.value in
     record {
-      flags = omega (arith, end_bound (order_of m) m.order.high, c.as-slice.ensures.len, m.room);
+      flags = omega (arith, end_bound (order_of m) m.order.high, c.as_slice.ensures.len, m.room);
       inside = subst (λ (P : Triangles). (i : ℕ) → P i ≡ true → (2 ≤ i) × (i < end (order_of m))) (sym s) m.inside;
       places = omega (arith, ap (λ (P : Triangles). length (members P (end (order_of m)))) s, c.count-places.ensures.value, c.if-buffer-places.false);
     }
@@ -52,8 +52,8 @@ unfolding count listed index_list
 returns c =
     let m = c.args.self.now in
     let n = order_of m in
-    let s = ap flagged c.as-slice.ensures.value in
-    long n (triangles_of m) c.args.buffer.now c.write-list.new.buffer c.write-list.result
-    (c.write-list.ensures.count ∙ ap (λ (P : Triangles). length (members P (end n))) s)
+    let s = ap flagged c.as_slice.ensures.value in
+    long n (triangles_of m) c.args.buffer.now c.write_list.new.buffer c.write_list.result
+    (c.write_list.ensures.count ∙ ap (λ (P : Triangles). length (members P (end n))) s)
     (omega (arith, c.count-places.ensures.value, c.if-buffer-places.false))
-    (c.write-list.ensures.after ∙ ap (λ (P : Triangles). all_vertices n (members P (end n)) ++ drop (3 * c.write-list.result) c.args.buffer.now) s)
+    (c.write_list.ensures.after ∙ ap (λ (P : Triangles). all_vertices n (members P (end n)) ++ drop (3 * c.write_list.result) c.args.buffer.now) s)

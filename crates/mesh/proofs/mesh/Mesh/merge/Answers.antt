@@ -19,20 +19,20 @@ tested : (n i m j : ℕ) (items slice : List Bool) (b : Bool) → m ≡ n → j 
 tested n i m j items slice b em ej es e =
     sym (e ∙ (ap (λ (k : ℕ). mergeable k j (flagged slice)) em ∙ (ap (λ (k : ℕ). mergeable n k (flagged slice)) ej ∙ ap (λ (l : List Bool). mergeable n i (flagged l)) es)))
 
-pub returns-in-default : goal.returns-in-default
-returns-in-default c =
+pub returns-in_default : goal.returns-in_default
+returns-in_default c =
     let m = c.args.self.now in
     record {
-      gives = merge_refused (order_of m) c.args.i (triangles_of m) (no_diamond (order_of m) c.args.i (triangles_of m) c.in-default.ensures);
+      gives = merge_refused (order_of m) c.args.i (triangles_of m) (no_diamond (order_of m) c.args.i (triangles_of m) c.in_default.ensures);
       laws = λ e. absurd (both_ways false refl e);
     }
 
-pub returns-then-not-can-merge : goal.returns-then-not-can-merge
-returns-then-not-can-merge c =
+pub returns-then-not-can_merge : goal.returns-then-not-can_merge
+returns-then-not-can_merge c =
     let m = c.args.self.now in
     let q = c.in-Some.ensures in
     record {
-      gives = merge_refused (order_of m) c.args.i (triangles_of m) (tested _ _ _ _ _ _ false q.1 q.2 c.as-slice.ensures.value c.if-not-can-merge.ensures);
+      gives = merge_refused (order_of m) c.args.i (triangles_of m) (tested _ _ _ _ _ _ false q.1 q.2 c.as_slice.ensures.value c.if-not-can_merge.ensures);
       laws = λ e. absurd (both_ways false refl e);
     }
 
@@ -40,19 +40,19 @@ pub merge-requires : goal.merge-requires
 merge-requires c =
     let m = c.args.self.now in
     let q = c.in-Some.ensures in
-    let can : mergeable (order_of m) c.args.i (triangles_of m) ≡ true = tested _ _ _ _ _ _ true q.1 q.2 c.as-slice.ensures.value c.if-not-can-merge.ensures in
+    let can : mergeable (order_of m) c.args.i (triangles_of m) ≡ true = tested _ _ _ _ _ _ true q.1 q.2 c.as_slice.ensures.value c.if-not-can_merge.ensures in
     record {
-      room = omega (arith, end_bound c.in-Some.t.order.n c.in-Some.t.order.high, c.as-mut-slice.ensures.len, m.room);
+      room = omega (arith, end_bound c.in-Some.t.order.n c.in-Some.t.order.high, c.as_mut_slice.ensures.len, m.room);
       splittable = omega (arith, merges_splittable (order_of m) c.args.i (triangles_of m) (mesh_value m) can, q.2, ap first_finest q.1);
     }
 
-pub invariant-of-self : goal.invariant-of-self
-invariant-of-self c =
+pub invariant_of-self : goal.invariant_of-self
+invariant_of-self c =
     let m = c.args.self.now in
     let q = c.in-Some.ensures in
-    let can : mergeable (order_of m) c.args.i (triangles_of m) ≡ true = tested _ _ _ _ _ _ true q.1 q.2 c.as-slice.ensures.value c.if-not-can-merge.ensures in
-    let e = with_items_is m.present c.merge.new.present (omega (arith, c.merge.auto.present, c.as-mut-slice.ensures.len)) in
-    let Q-is = changed merge (order_of m) c.args.i _ _ _ _ c.merge.new.present _ q.1 q.2 c.as-mut-slice.ensures.value c.merge.ensures e in
+    let can : mergeable (order_of m) c.args.i (triangles_of m) ≡ true = tested _ _ _ _ _ _ true q.1 q.2 c.as_slice.ensures.value c.if-not-can_merge.ensures in
+    let e = with_items_is m.present c.merge.new.present (omega (arith, c.merge.auto.present, c.as_mut_slice.ensures.len)) in
+    let Q-is = changed merge (order_of m) c.args.i _ _ _ _ c.merge.new.present _ q.1 q.2 c.as_mut_slice.ensures.value c.merge.ensures e in
     subst (Carried m.present.len (order_of m)) (sym Q-is) (carried m.present.len (order_of m) _ m.room (merges_undo (order_of m) c.args.i (triangles_of m) (mesh_value m) can).mesh)
 
 pub returns : goal.returns
@@ -62,9 +62,9 @@ returns c =
     let i = c.args.i in
     let P = triangles_of m in
     let q = c.in-Some.ensures in
-    let can : mergeable (order_of m) c.args.i (triangles_of m) ≡ true = tested _ _ _ _ _ _ true q.1 q.2 c.as-slice.ensures.value c.if-not-can-merge.ensures in
-    let e = with_items_is m.present c.merge.new.present (omega (arith, c.merge.auto.present, c.as-mut-slice.ensures.len)) in
-    let Q-is = changed merge n i _ _ _ _ c.merge.new.present _ q.1 q.2 c.as-mut-slice.ensures.value c.merge.ensures e in
+    let can : mergeable (order_of m) c.args.i (triangles_of m) ≡ true = tested _ _ _ _ _ _ true q.1 q.2 c.as_slice.ensures.value c.if-not-can_merge.ensures in
+    let e = with_items_is m.present c.merge.new.present (omega (arith, c.merge.auto.present, c.as_mut_slice.ensures.len)) in
+    let Q-is = changed merge n i _ _ _ _ c.merge.new.present _ q.1 q.2 c.as_mut_slice.ensures.value c.merge.ensures e in
     record {
       gives = ap (λ (Q : Triangles). leaves (state n Q)) Q-is ∙ sym (merge_goes n i P can);
       laws = λ _. subst (MergeLaws n i P) (sym Q-is) (merges_undo n i P (mesh_value m) can);

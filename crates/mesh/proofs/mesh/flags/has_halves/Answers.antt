@@ -8,11 +8,11 @@ use Rattle.mesh.proofs.mesh.flags.has_halves.Goals as goal
 small : (t : Triangle) → number_of t < 16384
 small t = omega (arith, t.high, end_bound t.order.n t.order.high)
 
-pub overflow-mul-i : goal.overflow-mul-i
-overflow-mul-i c = omega (arith, c.number-i.ensures, small c.args.t)
+pub overflow_mul-i : goal.overflow_mul-i
+overflow_mul-i c = omega (arith, c.number-i.ensures, small c.args.t)
 
-pub overflow-mul-i-2 : goal.overflow-mul-i-2
-overflow-mul-i-2 c = omega (arith, c.number-i.ensures, small c.args.t)
+pub overflow_mul-i-2 : goal.overflow_mul-i-2
+overflow_mul-i-2 c = omega (arith, c.number-i.ensures, small c.args.t)
 
-pub overflow-add-i : goal.overflow-add-i
-overflow-add-i c = omega (arith, c.number-i.ensures, small c.args.t)
+pub overflow_add-i : goal.overflow_add-i
+overflow_add-i c = omega (arith, c.number-i.ensures, small c.args.t)

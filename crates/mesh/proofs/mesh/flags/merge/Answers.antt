@@ -5,7 +5,7 @@ use Rattle.mesh.specs.Invariant.{flagged}
 use Rattle.mesh.specs.Sets.{rejoin}
 use Rattle.mesh.proofs.Diamonds.{merge_alone, merge_both, partner_splittable}
 use Rattle.mesh.proofs.mesh.flags.merge.Goals as goal
-use Rattle.mesh.proofs.mesh.flags.merge.Goals.{in-Some, in-default}
+use Rattle.mesh.proofs.mesh.flags.merge.Goals.{in-Some, in_default}
 
 pub rejoin-requires : goal.rejoin-requires
 rejoin-requires c =
@@ -17,7 +17,7 @@ rejoin-requires c =
 pub rejoin-requires-2 : goal.rejoin-requires-2
 rejoin-requires-2 c =
     let t = c.args.t in
-    record { low = omega (arith, c.number-2.ensures, t.low); room = omega (arith, c.number-2.ensures, c.requires.splittable, c.requires.room, end_twice (order_of t), c.match-partner-of.auto.present) }
+    record { low = omega (arith, c.number-2.ensures, t.low); room = omega (arith, c.number-2.ensures, c.requires.splittable, c.requires.room, end_twice (order_of t), c.match-partner_of.auto.present) }
 
 pub returns : goal.returns
 returns c =
@@ -25,11 +25,11 @@ returns c =
     let n = order_of t in
     let i = number_of t in
     let P = flagged c.args.present.now in
-    c.rejoin-2.ensures ∙ (ap (λ (j : ℕ). rejoin j (flagged c.match-partner-of.present)) c.number-2.ensures
-    ∙ elim c.match-partner-of.branch [
+    c.rejoin-2.ensures ∙ (ap (λ (j : ℕ). rejoin j (flagged c.match-partner_of.present)) c.number-2.ensures
+    ∙ elim c.match-partner_of.branch [
       | in-Some w ↦
           let q = w.in-Some.ensures in
-          ap (λ (l : List Bool). rejoin i (flagged l)) w.present_is
+          ap (λ (l : List Bool). rejoin i (flagged l)) w.present-is
           ∙ (ap (rejoin i) (w.rejoin.ensures ∙ ap (λ (j : ℕ). rejoin j P) (w.number.ensures ∙ q.2)) ∙ sym (merge_both n i P q.0))
-      | in-default w ↦ ap (λ (l : List Bool). rejoin i (flagged l)) w.present_is ∙ sym (merge_alone n i P w.in-default.ensures)
+      | in_default w ↦ ap (λ (l : List Bool). rejoin i (flagged l)) w.present-is ∙ sym (merge_alone n i P w.in_default.ensures)
     ])
