@@ -1,5 +1,5 @@
 -- Which files are taken: layer by layer, a test that was passed says what the layout asks, and the other way round.
-use Rattle.std.proofs.Common.{◌≡◌, ℕ, ◌+◌, ◌-◌, ◌*◌, ◌<◌, ◌≤◌, Bool, true, false, cond, ◌&&◌, ◌||◌, eqb, ltb, leb, ◌⊎◌, List, [], ◌∷◌, length, get_or, take, drop, sym, refl, ap, ◌∙◌, subst, ap₂, inl, inr, ⊎_elim, arith}
+use Rattle.std.proofs.Common.{◌≡◌, ℕ, ◌+◌, ◌-◌, ◌*◌, ◌<◌, ◌≤◌, Bool, true, false, cond, ◌||◌, eqb, ltb, leb, ◌⊎◌, List, [], ◌∷◌, length, drop, sym, refl, ap, ◌∙◌, subst, ap₂, inl, inr, ⊎_elim, arith}
 use mathlib.Core.Path.{fun_ext}
 use Rattle.std.proofs.lemmas.Nat.{mul-add-lt}
 use Rattle.std.proofs.lemmas.List.{get_or-take, get_or-drop}
@@ -7,11 +7,10 @@ use Rattle.std.proofs.lemmas.Bool.{cases_Bool, and_parts, and_from, and_cases, a
 use Rattle.bintree.specs.declared.point.Point.{Point}
 use Rattle.bintree.specs.Orders.{side, first_finest, is_order, is_splittable}
 use Rattle.bintree.specs.Refusals.{Refusal, Reply, given, refused, refusal}
-use Rattle.terrain.specs.Heights.{Heights, is_sample}
-use Rattle.terrain.specs.Bounds.{Bounds}
+use Rattle.terrain.specs.Heights.{is_sample}
 use Rattle.terrain.specs.Grounds.{Ground}
 use Rattle.terrain.specs.Laws.{Covered}
-use Rattle.terrain.specs.Filling.{sampled, bounding, described, lowest_breaking, filling_to, filling}
+use Rattle.terrain.specs.Filling.{sampled, bounding, described, lowest_breaking, filling_to}
 use Rattle.terrain.proofs.Fillings.{fill_laws}
 use Rattle.terrain.proofs.Places.{sample_x, sample_y}
 use Rattle.baked.specs.Bytes.{u8_at, u16_at, u32_at, bytes_from}

@@ -4,7 +4,7 @@ use Rattle.std.proofs.lemmas.Bool.{cases_Bool, cond_both, cond-true, cond-false,
 use Rattle.bintree.specs.declared.point.Point.{Point}
 use Rattle.bintree.specs.declared.point.Corners.{Corners}
 use Rattle.bintree.specs.Orders.{end, first_finest, is_triangle}
-use Rattle.bintree.specs.Triangles.{corners, level, low_half, high_half}
+use Rattle.bintree.specs.Triangles.{corners, level}
 use Rattle.bintree.specs.Samples.{box, BoxIn}
 use Rattle.bintree.proofs.Numbers.{corners_low, corners_high, end_twice}
 use Rattle.bintree.proofs.Laws.{level_laws, whole_centre, turning}

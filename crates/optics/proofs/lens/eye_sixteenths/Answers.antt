@@ -6,8 +6,8 @@ use Rattle.optics.proofs.lens.eye_sixteenths.Goals.{else-x-via-then-x+else-x-2, 
 
 pub returns-then-x-2 : goal.returns-then-x-2
 returns-then-x-2 c =
-    let f : SFits w16 c.saturating-f32-to-i16.result = search rules in
-    ap Some (to_z-of_z w16 _ f ∙ c.saturating-f32-to-i16.ensures) ∙ eye_taken c.args.x (subst T (sym c.well-formed.0.1) tt) c.if-x.true c.if-x-2.true
+    let f : SFits w16 c.saturating_f32_to_i16.result = search rules in
+    ap Some (to_z-of_z w16 _ f ∙ c.saturating_f32_to_i16.ensures) ∙ eye_taken c.args.x (subst T (sym c.well_formed.0.1) tt) c.if-x.true c.if-x-2.true
 
 pub returns-else-x : goal.returns-else-x
 returns-else-x c = elim c.else-x.branch [

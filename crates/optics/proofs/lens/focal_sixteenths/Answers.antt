@@ -5,7 +5,7 @@ use Rattle.optics.proofs.lens.focal_sixteenths.Goals.{else-x-via-then-x+else-x-2
 
 pub returns-then-x-2 : goal.returns-then-x-2
 returns-then-x-2 c =
-    ap Some c.saturating-f32-to-u16.ensures ∙ focal_taken c.args.x (subst T (sym c.well-formed.0.1) tt) c.if-x.true c.if-x-2.true
+    ap Some c.saturating_f32_to_u16.ensures ∙ focal_taken c.args.x (subst T (sym c.well_formed.0.1) tt) c.if-x.true c.if-x-2.true
 
 pub returns-else-x : goal.returns-else-x
 returns-else-x c = elim c.else-x.branch [

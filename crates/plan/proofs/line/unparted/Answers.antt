@@ -53,21 +53,21 @@ module _ (a b : Point) (t : Corners) where
   unfolding meets
   at-fifth = fifth by-base by_right by_left (all_beyond a b t) (all_beyond b a t)
 
-pub returns-then-both-beyond : goal.returns-then-both-beyond
-returns-then-both-beyond c = at_first c.args.a c.args.b c.args.t c.if-both-beyond.ensures
+pub returns-then-both_beyond : goal.returns-then-both_beyond
+returns-then-both_beyond c = at_first c.args.a c.args.b c.args.t c.if-both_beyond.ensures
 
-pub returns-then-both-beyond-2 : goal.returns-then-both-beyond-2
-returns-then-both-beyond-2 c = at_second c.args.a c.args.b c.args.t c.if-both-beyond.ensures c.if-both-beyond-2.ensures
+pub returns-then-both_beyond-2 : goal.returns-then-both_beyond-2
+returns-then-both_beyond-2 c = at_second c.args.a c.args.b c.args.t c.if-both_beyond.ensures c.if-both_beyond-2.ensures
 
-pub returns-then-both-beyond-3 : goal.returns-then-both-beyond-3
-returns-then-both-beyond-3 c =
-    at-third c.args.a c.args.b c.args.t c.if-both-beyond.ensures c.if-both-beyond-2.ensures c.if-both-beyond-3.ensures
+pub returns-then-both_beyond-3 : goal.returns-then-both_beyond-3
+returns-then-both_beyond-3 c =
+    at-third c.args.a c.args.b c.args.t c.if-both_beyond.ensures c.if-both_beyond-2.ensures c.if-both_beyond-3.ensures
 
-pub returns-then-corners-beyond : goal.returns-then-corners-beyond
-returns-then-corners-beyond c =
-    at-fourth c.args.a c.args.b c.args.t c.if-both-beyond.ensures c.if-both-beyond-2.ensures c.if-both-beyond-3.ensures c.if-corners-beyond.ensures
+pub returns-then-corners_beyond : goal.returns-then-corners_beyond
+returns-then-corners_beyond c =
+    at-fourth c.args.a c.args.b c.args.t c.if-both_beyond.ensures c.if-both_beyond-2.ensures c.if-both_beyond-3.ensures c.if-corners_beyond.ensures
 
 pub returns : goal.returns
 returns c =
-    ap not c.corners-beyond-2.ensures
-    ∙ at-fifth c.args.a c.args.b c.args.t c.if-both-beyond.ensures c.if-both-beyond-2.ensures c.if-both-beyond-3.ensures c.if-corners-beyond.ensures
+    ap not c.corners_beyond-2.ensures
+    ∙ at-fifth c.args.a c.args.b c.args.t c.if-both_beyond.ensures c.if-both_beyond-2.ensures c.if-both_beyond-3.ensures c.if-corners_beyond.ensures

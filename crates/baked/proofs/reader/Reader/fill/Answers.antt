@@ -1,5 +1,5 @@
 -- Each way out: a fault of the layer that found it, inside the file's fault; or the map that the table gave.
-use Rattle.std.proofs.Common.{◌≡◌, ap, ◌∙◌}
+use Rattle.std.proofs.Common.{ap, ◌∙◌}
 use Rattle.std.proofs.lemmas.Result.{err_from_is_err_and}
 use Rattle.bintree.specs.Refusals.{Reply, given, refused, told}
 use Rattle.terrain.specs.Grounds.{Ground, left_by}

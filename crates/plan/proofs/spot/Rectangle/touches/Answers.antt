@@ -13,5 +13,5 @@ same_test a b c d e f = cc
 pub returns : goal.returns
 returns c =
     let t = c.args.triangle in
-    let e = c.overlap.ensures ∙ same_test _ _ (extent c.args.self) (box (corners t.order.n t.number)) c.extent.ensures c.bounding-box.ensures.value in
+    let e = c.overlap.ensures ∙ same_test _ _ (extent c.args.self) (box (corners t.order.n t.number)) c.extent.ensures c.bounding_box.ensures.value in
     record { value = e; geometry = Decides-at _ _ e (touches_decides c.args.self (corners t.order.n t.number)) }

@@ -3,8 +3,8 @@ use Rattle.terrain.specs.Views.{map_view}
 use Rattle.priority.proofs.Asked.{found, not_found, camera_none, camera_some}
 use Rattle.priority.proofs.camera_rule.CameraRulePolicy.priority.Goals as goal
 
-pub returns-in-default : goal.returns-in-default
-returns-in-default c = camera_none c.args.self.now.lens (map_view c.args.self.now.map.now) c.args.triangle (not_found _ _ c.args.triangle c.order.ensures c.in-default.ensures)
+pub returns-in_default : goal.returns-in_default
+returns-in_default c = camera_none c.args.self.now.lens (map_view c.args.self.now.map.now) c.args.triangle (not_found _ _ c.args.triangle c.order.ensures c.in_default.ensures)
 
 pub returns-in-Some-bound : goal.returns-in-Some-bound
 returns-in-Some-bound c =

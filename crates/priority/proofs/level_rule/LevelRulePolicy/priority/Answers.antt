@@ -1,10 +1,9 @@
 use Rattle.std.proofs.Common.{ℕ, ◌-◌, ◌*◌, refl, ap, ◌∙◌, arith}
-use Rattle.bintree.specs.Triangles.{level}
 use Rattle.priority.proofs.Asked.{found, level_below, level_none, level_some}
 use Rattle.priority.proofs.level_rule.LevelRulePolicy.priority.Goals as goal
 
-pub overflow-sub-result : goal.overflow-sub-result
-overflow-sub-result c = omega (arith, level_below c.in-Some.t, c.level.ensures.value, c.in-Some.ensures.1, c.value.ensures, c.from.ensures)
+pub overflow_sub-result : goal.overflow_sub-result
+overflow_sub-result c = omega (arith, level_below c.in-Some.t, c.level.ensures.value, c.in-Some.ensures.1, c.value.ensures, c.from.ensures)
 
 pub returns-in-Some : goal.returns-in-Some
 returns-in-Some c =

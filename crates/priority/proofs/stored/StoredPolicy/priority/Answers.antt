@@ -5,6 +5,6 @@ use Rattle.priority.proofs.stored.StoredPolicy.priority.Goals as goal
 
 pub returns : goal.returns
 returns c = record {
-  value = c.unwrap-or.ensures ∙ bound_or_none (map_view c.args.self.now.map.now) c.args.triangle c.bound.result c.bound.ensures.value;
+  value = c.unwrap_or.ensures ∙ bound_or_none (map_view c.args.self.now.map.now) c.args.triangle c.bound.result c.bound.ensures.value;
   wedge = c.bound.ensures.wedge;
 }

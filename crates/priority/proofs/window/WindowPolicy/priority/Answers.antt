@@ -2,11 +2,11 @@ use Rattle.std.proofs.Common.{true, false, refl}
 use Rattle.priority.proofs.Asked.{found, not_found, window_none, window_asked}
 use Rattle.priority.proofs.window.WindowPolicy.priority.Goals as goal
 
-pub returns-in-default : goal.returns-in-default
-returns-in-default g c =
+pub returns-in_default : goal.returns-in_default
+returns-in_default g c =
     let p = c.args.self.now in
     let n = g.P.Policy.degree p.below in
-    let a = window_none p.rectangle n (g.P.Policy.number p.below) c.args.triangle (not_found _ n c.args.triangle c.order.ensures c.in-default.ensures) in
+    let a = window_none p.rectangle n (g.P.Policy.number p.below) c.args.triangle (not_found _ n c.args.triangle c.order.ensures c.in_default.ensures) in
     record { value = a.value; geometry = a.geometry }
 
 pub returns-then-touches : goal.returns-then-touches

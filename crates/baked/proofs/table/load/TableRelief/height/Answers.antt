@@ -1,5 +1,5 @@
 -- However far off the point is, its place fits.
-use Rattle.std.proofs.Common.{ℕ, ◌+◌, arith}
+use Rattle.std.proofs.Common.{◌+◌, arith}
 use Rattle.std.proofs.lemmas.Nat.{mul-le}
 use Rattle.baked.proofs.table.load.TableRelief.height.Goals as goal
 
