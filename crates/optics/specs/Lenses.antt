@@ -20,4 +20,4 @@ shown b f far = min (b * f / (far + 16)) 4294967295
 
 -- The bound b of a triangle with this bounding box, through a lens.
 abbrev pub seen : Lens → ℕ → BoundingBox → ℕ
-seen l b corner-box = shown b l.focal (distance l.eye corner-box)
+seen l b corner_box = shown b l.focal (distance l.eye corner_box)

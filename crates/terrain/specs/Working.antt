@@ -19,7 +19,7 @@ new_bounds scope n zs bs = worked_out (due scope n) (offset n (heights_in n zs))
 
 -- Halfway through, each bound of the table is the old one or the new one.
 abbrev pub Mixed : Bounds → Bounds → Bounds → Type 0
-Mixed old new now-there = (j : ℕ) → (now-there j ≡ old j) ⊎ (now-there j ≡ new j)
+Mixed old new now_there = (j : ℕ) → (now_there j ≡ old j) ⊎ (now_there j ≡ new j)
 
 -- Triangle i is settled: it and all that descend from it have their new bounds, and no other bound has changed but to its new one. Besides,
 -- `bound` is the new bound of i, and `passing` the highest-numbered of those triangles whose new bound passes the limit, 0 for none.

@@ -2,7 +2,7 @@
 ghost use Rattle.std.specs.Prelude.{◌≡◌, ◌<◌, ◌≤◌, MatchResult};
 ghost use Rattle.bintree.specs.Orders.{first_finest};
 ghost use Rattle.bintree.specs.Views.{order_value, order_of, number_of};
-ghost use Rattle.terrain.specs.Bounds.{offset as offset_of};
+ghost use Rattle.terrain.specs.Bounds.{offset as triangle_offset};
 ghost use Rattle.terrain.specs.Filling.{sampled, bounding, described, breaks_rule, lowest_breaking};
 
 use crate::relief::{CoverFault, Relief};
@@ -22,7 +22,7 @@ pub(crate) fn bound_of<S: Relief>(source: &S, t: Triangle) -> u32
 // The offset of a splittable triangle, in half height units.
 fn offset<S: Relief>(source: &S, t: Triangle) -> u32
     requires { number_of t < first_finest (order_of t) }
-    ensures value { result ≡ offset_of (order_of t) (sampled (order_of t) (S.heights source.now)) (number_of t) }
+    ensures value { result ≡ triangle_offset (order_of t) (sampled (order_of t) (S.heights source.now)) (number_of t) }
     ensures bound { result ≤ 131070 }
 {
     let ends = t.corners();

@@ -2,7 +2,7 @@
 ghost use Rattle.std.specs.Prelude.{◌≡◌, ◌<◌, ◌≤◌, length};
 ghost use Rattle.bintree.specs.Orders.{first_finest};
 ghost use Rattle.bintree.specs.Views.{order_value, order_of, number_of};
-ghost use Rattle.terrain.specs.Bounds.{offset as offset_of, WithinLimit};
+ghost use Rattle.terrain.specs.Bounds.{offset as triangle_offset, WithinLimit};
 ghost use Rattle.terrain.specs.Carving.{highest_passing};
 ghost use Rattle.terrain.specs.Tables.{heights_in, bounds_in};
 ghost use Rattle.terrain.specs.Working.{new_bounds, Mixed, Settles, last_of};
@@ -20,7 +20,7 @@ const LIMIT: u32 = 16_777_215;
 fn offset(heights: &[u16], t: Triangle) -> u32
     requires tall { length heights.now ≡ 4225 }
     requires splittable { number_of t < first_finest (order_of t) }
-    ensures value { result ≡ offset_of (order_of t) (heights_in (order_of t) heights.now) (number_of t) }
+    ensures value { result ≡ triangle_offset (order_of t) (heights_in (order_of t) heights.now) (number_of t) }
     ensures bound { result ≤ 131070 }
 {
     let ends = t.corners();
