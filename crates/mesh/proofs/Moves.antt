@@ -177,12 +177,12 @@ module _ (n : ℕ) where
             let z = ih (omega (arith, a.less)) a.there a.splittable in
             let f = z.1 in
             let lp = (lawful.inside i q.range.0 u p).0 in
-            let is-rest : rest ≡ mesh (square n) z.0 = ap (λ (y : ℕ). split_deep k n y M) (holder_parent M (partner n i) lp t (mesh_true (square n) S (partner n i / 2) a.there)) ∙ z.2 in
+            let is_rest : rest ≡ mesh (square n) z.0 = ap (λ (y : ℕ). split_deep k n y M) (holder_parent M (partner n i) lp t (mesh_true (square n) S (partner n i / 2) a.there)) ∙ z.2 in
             let out = unforced i q u p a.low z.0 f in (
               add i (add (partner n i) z.0),
               paired lawful S z.0 i (ready i q u) p (before_forced S z.0 i p a.low f),
               ap whole t ∙ (some_partner (partner n i) _ _ p
-                  ∙ (ap (λ (R : Triangles). halve i (halve (partner n i) R)) is-rest ∙ halve_two z.0 f.closed i q.range.0 u p out.0 out.1)),
+                  ∙ (ap (λ (R : Triangles). halve i (halve (partner n i) R)) is_rest ∙ halve_two z.0 f.closed i q.range.0 u p out.0 out.1)),
             )
 
     pub the_split : (i : ℕ) → Present (square n) S i → i < first_finest n → (F : Set) × Forced (square n) S i F × (split n i (mesh (square n) S) ≡ mesh (square n) F)

@@ -24,8 +24,8 @@ fifth : (a b c d e : Bool) → false ≡ a → false ≡ b → false ≡ c → f
 fifth a b c d e h i j k = rw (← h, ← i, ← j, ← k)
 
 module _ (a b : Point) (t : Corners) where
-  abbrev by-base : Bool
-  by-base = cut_off t.left t.right a b
+  abbrev by_base : Bool
+  by_base = cut_off t.left t.right a b
 
   abbrev by_right : Bool
   by_right = cut_off t.right t.apex a b
@@ -33,25 +33,25 @@ module _ (a b : Point) (t : Corners) where
   abbrev by_left : Bool
   by_left = cut_off t.apex t.left a b
 
-  at_first : true ≡ by-base → false ≡ meets a b t
+  at_first : true ≡ by_base → false ≡ meets a b t
   unfolding meets
-  at_first = first by-base by_right by_left (all_beyond a b t) (all_beyond b a t)
+  at_first = first by_base by_right by_left (all_beyond a b t) (all_beyond b a t)
 
-  at_second : false ≡ by-base → true ≡ by_right → false ≡ meets a b t
+  at_second : false ≡ by_base → true ≡ by_right → false ≡ meets a b t
   unfolding meets
-  at_second = second by-base by_right by_left (all_beyond a b t) (all_beyond b a t)
+  at_second = second by_base by_right by_left (all_beyond a b t) (all_beyond b a t)
 
-  at-third : false ≡ by-base → false ≡ by_right → true ≡ by_left → false ≡ meets a b t
+  at_third : false ≡ by_base → false ≡ by_right → true ≡ by_left → false ≡ meets a b t
   unfolding meets
-  at-third = third by-base by_right by_left (all_beyond a b t) (all_beyond b a t)
+  at_third = third by_base by_right by_left (all_beyond a b t) (all_beyond b a t)
 
-  at-fourth : false ≡ by-base → false ≡ by_right → false ≡ by_left → true ≡ all_beyond a b t → false ≡ meets a b t
+  at_fourth : false ≡ by_base → false ≡ by_right → false ≡ by_left → true ≡ all_beyond a b t → false ≡ meets a b t
   unfolding meets
-  at-fourth = fourth by-base by_right by_left (all_beyond a b t) (all_beyond b a t)
+  at_fourth = fourth by_base by_right by_left (all_beyond a b t) (all_beyond b a t)
 
-  at-fifth : false ≡ by-base → false ≡ by_right → false ≡ by_left → false ≡ all_beyond a b t → not (all_beyond b a t) ≡ meets a b t
+  at_fifth : false ≡ by_base → false ≡ by_right → false ≡ by_left → false ≡ all_beyond a b t → not (all_beyond b a t) ≡ meets a b t
   unfolding meets
-  at-fifth = fifth by-base by_right by_left (all_beyond a b t) (all_beyond b a t)
+  at_fifth = fifth by_base by_right by_left (all_beyond a b t) (all_beyond b a t)
 
 pub returns-then-both_beyond : goal.returns-then-both_beyond
 returns-then-both_beyond c = at_first c.args.a c.args.b c.args.t c.if-both_beyond.ensures
@@ -61,13 +61,13 @@ returns-then-both_beyond-2 c = at_second c.args.a c.args.b c.args.t c.if-both_be
 
 pub returns-then-both_beyond-3 : goal.returns-then-both_beyond-3
 returns-then-both_beyond-3 c =
-    at-third c.args.a c.args.b c.args.t c.if-both_beyond.ensures c.if-both_beyond-2.ensures c.if-both_beyond-3.ensures
+    at_third c.args.a c.args.b c.args.t c.if-both_beyond.ensures c.if-both_beyond-2.ensures c.if-both_beyond-3.ensures
 
 pub returns-then-corners_beyond : goal.returns-then-corners_beyond
 returns-then-corners_beyond c =
-    at-fourth c.args.a c.args.b c.args.t c.if-both_beyond.ensures c.if-both_beyond-2.ensures c.if-both_beyond-3.ensures c.if-corners_beyond.ensures
+    at_fourth c.args.a c.args.b c.args.t c.if-both_beyond.ensures c.if-both_beyond-2.ensures c.if-both_beyond-3.ensures c.if-corners_beyond.ensures
 
 pub returns : goal.returns
 returns c =
     ap not c.corners_beyond-2.ensures
-    ∙ at-fifth c.args.a c.args.b c.args.t c.if-both_beyond.ensures c.if-both_beyond-2.ensures c.if-both_beyond-3.ensures c.if-corners_beyond.ensures
+    ∙ at_fifth c.args.a c.args.b c.args.t c.if-both_beyond.ensures c.if-both_beyond-2.ensures c.if-both_beyond-3.ensures c.if-corners_beyond.ensures

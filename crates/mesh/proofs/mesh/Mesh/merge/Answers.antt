@@ -52,8 +52,8 @@ invariant_of-self c =
     let q = c.in-Some.ensures in
     let can : mergeable (order_of m) c.args.i (triangles_of m) ≡ true = tested _ _ _ _ _ _ true q.1 q.2 c.as_slice.ensures.value c.if-not-can_merge.ensures in
     let e = with_items_is m.present c.merge.new.present (omega (arith, c.merge.auto.present, c.as_mut_slice.ensures.len)) in
-    let Q-is = changed merge (order_of m) c.args.i _ _ _ _ c.merge.new.present _ q.1 q.2 c.as_mut_slice.ensures.value c.merge.ensures e in
-    subst (Carried m.present.len (order_of m)) (sym Q-is) (carried m.present.len (order_of m) _ m.room (merges_undo (order_of m) c.args.i (triangles_of m) (mesh_value m) can).mesh)
+    let Q_is = changed merge (order_of m) c.args.i _ _ _ _ c.merge.new.present _ q.1 q.2 c.as_mut_slice.ensures.value c.merge.ensures e in
+    subst (Carried m.present.len (order_of m)) (sym Q_is) (carried m.present.len (order_of m) _ m.room (merges_undo (order_of m) c.args.i (triangles_of m) (mesh_value m) can).mesh)
 
 pub returns : goal.returns
 returns c =
@@ -64,8 +64,8 @@ returns c =
     let q = c.in-Some.ensures in
     let can : mergeable (order_of m) c.args.i (triangles_of m) ≡ true = tested _ _ _ _ _ _ true q.1 q.2 c.as_slice.ensures.value c.if-not-can_merge.ensures in
     let e = with_items_is m.present c.merge.new.present (omega (arith, c.merge.auto.present, c.as_mut_slice.ensures.len)) in
-    let Q-is = changed merge n i _ _ _ _ c.merge.new.present _ q.1 q.2 c.as_mut_slice.ensures.value c.merge.ensures e in
+    let Q_is = changed merge n i _ _ _ _ c.merge.new.present _ q.1 q.2 c.as_mut_slice.ensures.value c.merge.ensures e in
     record {
-      gives = ap (λ (Q : Triangles). leaves (state n Q)) Q-is ∙ sym (merge_goes n i P can);
-      laws = λ _. subst (MergeLaws n i P) (sym Q-is) (merges_undo n i P (mesh_value m) can);
+      gives = ap (λ (Q : Triangles). leaves (state n Q)) Q_is ∙ sym (merge_goes n i P can);
+      laws = λ _. subst (MergeLaws n i P) (sym Q_is) (merges_undo n i P (mesh_value m) can);
     }

@@ -61,8 +61,8 @@ invariant_of-self c =
     let there : triangles_of m c.args.i ≡ true = sym (c.if-not-has.ensures ∙ ap (λ (l : List Bool). flagged l c.args.i) c.as_slice.ensures.value) in
     let u : c.args.i < first_finest (order_of m) = omega (arith, c.first_finest.ensures.value, c.if-i-first_finest.false) in
     let e = with_items_is m.present c.split_forced.new.present (omega (arith, c.split_forced.auto.present, c.as_mut_slice.ensures.len)) in
-    let Q-is = changed split (order_of m) c.args.i _ _ _ _ c.split_forced.new.present _ q.1 q.2 c.as_mut_slice.ensures.value c.split_forced.ensures e in
-    subst (Carried m.present.len (order_of m)) (sym Q-is) (carried m.present.len (order_of m) _ m.room (splits_least (order_of m) c.args.i (triangles_of m) (mesh_value m) there u).least.mesh)
+    let Q_is = changed split (order_of m) c.args.i _ _ _ _ c.split_forced.new.present _ q.1 q.2 c.as_mut_slice.ensures.value c.split_forced.ensures e in
+    subst (Carried m.present.len (order_of m)) (sym Q_is) (carried m.present.len (order_of m) _ m.room (splits_least (order_of m) c.args.i (triangles_of m) (mesh_value m) there u).least.mesh)
 
 pub returns : goal.returns
 returns c =
@@ -74,8 +74,8 @@ returns c =
     let there : triangles_of m c.args.i ≡ true = sym (c.if-not-has.ensures ∙ ap (λ (l : List Bool). flagged l c.args.i) c.as_slice.ensures.value) in
     let u : c.args.i < first_finest (order_of m) = omega (arith, c.first_finest.ensures.value, c.if-i-first_finest.false) in
     let e = with_items_is m.present c.split_forced.new.present (omega (arith, c.split_forced.auto.present, c.as_mut_slice.ensures.len)) in
-    let Q-is = changed split n i _ _ _ _ c.split_forced.new.present _ q.1 q.2 c.as_mut_slice.ensures.value c.split_forced.ensures e in
+    let Q_is = changed split n i _ _ _ _ c.split_forced.new.present _ q.1 q.2 c.as_mut_slice.ensures.value c.split_forced.ensures e in
     record {
-      gives = ap (λ (Q : Triangles). leaves (state n Q)) Q-is ∙ sym (split_goes n i P there u);
-      laws = λ _. subst (SplitLaws n i P) (sym Q-is) (splits_least n i P (mesh_value m) there u);
+      gives = ap (λ (Q : Triangles). leaves (state n Q)) Q_is ∙ sym (split_goes n i P there u);
+      laws = λ _. subst (SplitLaws n i P) (sym Q_is) (splits_least n i P (mesh_value m) there u);
     }
