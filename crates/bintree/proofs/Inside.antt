@@ -109,12 +109,12 @@ weights_sum : (ax ay lx ly rx ry vx vy wa wl wr w : ℕ)
 weights_sum ax ay lx ly rx ry vx vy wa wl wr w e f g h = omega arith
 
 -- the areas times the corners are the whole area times the point
-whole_x : (ax ay lx ly rx ry vx vy : ℕ)
+pub whole_x : (ax ay lx ly rx ry vx vy : ℕ)
     → (lx * ry + rx * vy + vx * ly) * ax + (rx * ay + ax * vy + vx * ry) * lx + (ax * ly + lx * vy + vx * ay) * rx + (ay * lx + ly * rx + ry * ax) * vx
     ≡ (ly * rx + ry * vx + vy * lx) * ax + (ry * ax + ay * vx + vy * rx) * lx + (ay * lx + ly * vx + vy * ax) * rx + (ax * ly + lx * ry + rx * ay) * vx
 whole_x ax ay lx ly rx ry vx vy = omega arith
 
-whole_y : (ax ay lx ly rx ry vx vy : ℕ)
+pub whole_y : (ax ay lx ly rx ry vx vy : ℕ)
     → (lx * ry + rx * vy + vx * ly) * ay + (rx * ay + ax * vy + vx * ry) * ly + (ax * ly + lx * vy + vx * ay) * ry + (ay * lx + ly * rx + ry * ax) * vy
     ≡ (ly * rx + ry * vx + vy * lx) * ay + (ry * ax + ay * vx + vy * rx) * ly + (ay * lx + ly * vx + vy * ax) * ry + (ax * ly + lx * ry + rx * ay) * vy
 whole_y ax ay lx ly rx ry vx vy = omega arith

@@ -1,6 +1,6 @@
 -- The five rules keep the law.
 use Rattle.std.proofs.Common.{◌≡◌, ℕ, ◌+◌, ◌-◌, ◌*◌, ◌<◌, ◌≤◌, Bool, true, false, cond, ◌⊎◌, sym, refl, ap, ◌∙◌, subst, inl, inr, arith}
-use Rattle.std.proofs.lemmas.Bool.{cases_Bool, cond_both, cond-true, cond-false, and_parts, and_from, leb-true, le-leb, ltb-true, lt-ltb, both_ways}
+use Rattle.std.proofs.lemmas.Bool.{cases_Bool, cond_both, cond-true, cond-false, and_parts, leb-true, ltb-true, both_ways}
 use Rattle.bintree.specs.declared.point.Point.{Point}
 use Rattle.bintree.specs.declared.point.Corners.{Corners}
 use Rattle.bintree.specs.Orders.{end, first_finest, is_triangle}
@@ -10,6 +10,7 @@ use Rattle.bintree.proofs.Numbers.{corners_low, corners_high, end_twice}
 use Rattle.bintree.proofs.Laws.{level_laws, whole_centre, turning}
 use Rattle.terrain.specs.Bounds.{WithinLimit, AboveHalves}
 use Rattle.terrain.specs.Grounds.{Ground}
+use Rattle.terrain.proofs.Highest.{is_tri}
 use Rattle.plan.specs.declared.spot.Line.{Line}
 use Rattle.plan.specs.declared.spot.Rectangle.{Rectangle}
 use Rattle.plan.specs.Lines.{spot_point, Meets, meets}
@@ -24,9 +25,6 @@ use Rattle.numbering.proofs.Halves.{low_box, high_box, touches_parent, seen_fall
 -- j is the one or the other half of i
 abbrev pub Half : ℕ → ℕ → Type 0
 Half i j = (j ≡ 2 * i) ⊎ (j ≡ 2 * i + 1)
-
-is_triangle_from : (n i : ℕ) → 2 ≤ i → i < end n → is_triangle n i ≡ true
-is_triangle_from n i p q = and_from _ _ (le-leb 2 i p) (lt-ltb i (end n) q)
 
 triangle_is : (n i : ℕ) → is_triangle n i ≡ true → (2 ≤ i) × (i < end n)
 triangle_is n i e = let p = and_parts _ _ e in (leb-true 2 i p.0, ltb-true i (end n) p.1)
@@ -50,8 +48,8 @@ module _ (n : ℕ) (f : ℕ → ℕ) where
       half : (i j : ℕ) → 2 ≤ i → i < first_finest n → Half i j → on_triangles n f j ≤ on_triangles n f i
       half i j p q d =
           let k = half_below n i j p q d in
-          let x = cond-true (is_triangle n j) (f j) 0 (is_triangle_from n j k.0 k.1) in
-          let y = cond-true (is_triangle n i) (f i) 0 (is_triangle_from n i p (omega (arith, end_twice n))) in
+          let x = cond-true (is_triangle n j) (f j) 0 (is_tri n j k.0 k.1) in
+          let y = cond-true (is_triangle n i) (f i) 0 (is_tri n i p (omega (arith, end_twice n))) in
           omega (arith, x, y, falls i j p q d)
 
 bounds_fall : (g : Ground) → AboveHalves g.order g.heights g.bounds → (i j : ℕ) → 2 ≤ i → i < first_finest g.order → Half i j → g.bounds j ≤ g.bounds i

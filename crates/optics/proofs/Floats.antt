@@ -5,6 +5,7 @@ use native.Mathlib.Nat.{mul-div-mul_right}
 use lib.Pow.{pow-lt}
 use lib.Ieee.{Float, nan, inf, fin, binary32, up, down, fits, mul, round, le, lt, eq, neg, of_bits, to_signed, to_unsigned}
 use lib.Ieee.Exact.{HasValue, round_exact}
+use Rattle.std.proofs.lemmas.Bool.{leb-true, ltb-true}
 use Rattle.std.proofs.lemmas.Bool.Decides.{nat_tests}
 use Rattle.optics.specs.Cameras.{sixteenths, signed, eye_sixteenths, focal_sixteenths}
 
@@ -135,20 +136,14 @@ negative_below : (m : ℕ) (e : ℤ) → le (fin true m e) (fin false 1 (pos 10)
 unfolding le lt eq
 negative_below m e = let d = down_pos e in grind (arith, nat_tests)
 
-leb_le : (a b : ℕ) → leb a b ≡ true → a ≤ b
-leb_le a b e = leb→le a b (subst T (sym e) tt)
-
-ltb_lt : (a b : ℕ) → ltb a b ≡ true → a < b
-ltb_lt a b e = ltb→lt a b (subst T (sym e) tt)
-
 eye_at : (x : Float) → T (fits binary32 x) → le (fin true 1 (pos 10)) x ≡ true → le x (fin false 1 (pos 10)) ≡ true
     → Some (to_signed 15 (mul binary32 x (of_bits binary32 1098907648))) ≡ eye_sixteenths x
 unfolding eye_sixteenths le lt eq
 eye_at nan f a b = never a
 eye_at (inf true) f a b = never a
 eye_at (inf false) f a b = never b
-eye_at (fin true m e) f a b = let t = sym (above_low m e) ∙ a in rw (t, cut_eye true m e f (leb_le _ _ t))
-eye_at (fin false m e) f a b = let t = sym (below_high m e) ∙ b in rw (t, cut_eye false m e f (leb_le _ _ t))
+eye_at (fin true m e) f a b = let t = sym (above_low m e) ∙ a in rw (t, cut_eye true m e f (leb-true _ _ t))
+eye_at (fin false m e) f a b = let t = sym (below_high m e) ∙ b in rw (t, cut_eye false m e f (leb-true _ _ t))
 
 eye_not : (x : Float) → (le (fin true 1 (pos 10)) x ≡ false) ⊎ (le x (fin false 1 (pos 10)) ≡ false) → None ≡ eye_sixteenths x
 unfolding eye_sixteenths
@@ -188,7 +183,7 @@ focal_at nan f a b = never a
 focal_at (inf true) f a b = never a
 focal_at (inf false) f a b = never b
 focal_at (fin true m e) f a b = never (sym (negative_not_enough m e) ∙ a)
-focal_at (fin false m e) f a b = let t = sym (enough m e) ∙ a in let u = sym (under m e) ∙ b in rw (t, u, cut_focal m e f (ltb_lt _ _ u))
+focal_at (fin false m e) f a b = let t = sym (enough m e) ∙ a in let u = sym (under m e) ∙ b in rw (t, u, cut_focal m e f (ltb-true _ _ u))
 
 and_false : (a : Bool) → (a && false) ≡ false
 and_false true = refl

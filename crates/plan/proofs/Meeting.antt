@@ -6,7 +6,7 @@ use Rattle.bintree.specs.declared.point.Point.{Point}
 use Rattle.bintree.specs.declared.point.Corners.{Corners}
 use Rattle.bintree.specs.Triangles.{at}
 use Rattle.bintree.specs.Samples.{rising, falling}
-use Rattle.bintree.proofs.Inside.{Turning}
+use Rattle.bintree.proofs.Inside.{Turning, whole_x, whole_y}
 use Rattle.plan.specs.Lines.{Meets, meets}
 use Rattle.plan.proofs.Parting.{Side, Sides, above, below, Common, Open, One, Unparted, common, sum_at}
 
@@ -23,19 +23,11 @@ far_left a b t = side a b t.right t.apex t.left
 abbrev far_right : Point → Point → Corners → Side
 far_right a b t = side a b t.apex t.left t.right
 
--- the balances of a point over the three edges, times the corners, are the doubled area times the point
+-- the balances of a point over the three edges add up to the doubled area
 module _ (ax ay lx ly rx ry vx vy : ℕ) where
   whole : (lx * ry + rx * vy + vx * ly) + (rx * ay + ax * vy + vx * ry) + (ax * ly + lx * vy + vx * ay) + (ay * lx + ly * rx + ry * ax)
       ≡ (ly * rx + ry * vx + vy * lx) + (ry * ax + ay * vx + vy * rx) + (ay * lx + ly * vx + vy * ax) + (ax * ly + lx * ry + rx * ay)
   whole = omega arith
-
-  whole_x : (lx * ry + rx * vy + vx * ly) * ax + (rx * ay + ax * vy + vx * ry) * lx + (ax * ly + lx * vy + vx * ay) * rx + (ay * lx + ly * rx + ry * ax) * vx
-      ≡ (ly * rx + ry * vx + vy * lx) * ax + (ry * ax + ay * vx + vy * rx) * lx + (ay * lx + ly * vx + vy * ax) * rx + (ax * ly + lx * ry + rx * ay) * vx
-  whole_x = omega arith
-
-  whole_y : (lx * ry + rx * vy + vx * ly) * ay + (rx * ay + ax * vy + vx * ry) * ly + (ax * ly + lx * vy + vx * ay) * ry + (ay * lx + ly * rx + ry * ax) * vy
-      ≡ (ly * rx + ry * vx + vy * lx) * ay + (ry * ax + ay * vx + vy * rx) * ly + (ay * lx + ly * vx + vy * ax) * ry + (ax * ly + lx * ry + rx * ay) * vy
-  whole_y = omega arith
 
 change : (α β γ : ℕ) {p q x y v w : ℕ} → p ≡ q → x ≡ y → v ≡ w → γ * p + (β * v + α * x) ≡ γ * q + (β * w + α * y)
 change α β γ i j k = cc

@@ -1,5 +1,5 @@
 // Which triangles a line meets.
-ghost use Rattle.std.specs.Prelude.{◌≡◌, ◌*◌, ◌^◌, ◌<◌, Decides};
+ghost use Rattle.std.specs.Prelude.{◌≡◌, Decides};
 ghost use Rattle.bintree.specs.Triangles.{corners as corners_of};
 ghost use Rattle.bintree.specs.Views.{order_of, number_of};
 ghost use Rattle.plan.specs.Lines.{spot_point, Meets, beyond as beyond_of, cut_off, all_beyond, meets as meets_of};
@@ -7,21 +7,13 @@ ghost use Rattle.plan.specs.Lines.{spot_point, Meets, beyond as beyond_of, cut_o
 use crate::spot::{Line, Spot};
 use bintree::point::{Corners, Point};
 use bintree::triangle::Triangle;
-
-fn product(a: u32, b: u32) -> u128
-    ensures value { result ≡ a * b }
-    ensures bound { result < 2 ^ 64 }
-{
-    u128::from(a) * u128::from(b)
-}
+use bintree::triangle::samples::beside;
 
 // Whether v lies strictly to the right of the way from p to q.
 fn beyond(p: Point, q: Point, v: Point) -> bool
     ensures { result ≡ beyond_of p q v }
 {
-    let rising = product(p.x, q.y) + product(q.x, v.y) + product(v.x, p.y);
-    let falling = product(p.y, q.x) + product(q.y, v.x) + product(v.y, p.x);
-    rising < falling
+    !beside(p, q, v)
 }
 
 // Whether both a and b lie beyond the edge from p to q.

@@ -15,8 +15,8 @@ fn product(a: u32, b: u32) -> u128
     u128::from(a) * u128::from(b)
 }
 
-// Whether the point is not beyond the edge from p to q, seen from the triangle that lies to the left of it.
-fn beside(p: Point, q: Point, v: Point) -> bool
+// Whether v lies to the left of the way from p to q, or on its line: it is not beyond the edge of a triangle that lies to the left of that edge.
+pub fn beside(p: Point, q: Point, v: Point) -> bool
     ensures { result ≡ nat_le (falling_of p q v) (rising_of p q v) }
 {
     let rising = product(p.x, q.y) + product(q.x, v.y) + product(v.x, p.y);
