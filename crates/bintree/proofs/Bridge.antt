@@ -1,5 +1,5 @@
 -- The bridge by triangle numbers, in the words of the definitions, from the bridge over the trees.
-use Rattle.std.proofs.Common.{◌≡◌, ℕ, suc, ◌+◌, ◌*◌, ◌/◌, ◌^◌, ◌<◌, ◌≤◌, Bool, true, false, T, ◌⊎◌, sym, refl, ap, ◌∙◌, subst, inl, inr, arith}
+use Rattle.std.proofs.Common.{◌≡◌, ℕ, suc, ◌+◌, ◌*◌, ◌/◌, ◌^◌, ◌<◌, ◌≤◌, Bool, true, false, T, ◌⊎◌, sym, refl, ap, ◌∙◌, subst, inl, inr, arith, Some, None, Option}
 use Rattle.std.proofs.lemmas.Bool.{both_ways, cases_eq}
 use Rattle.bintree.specs.declared.point.Point.{Point}
 use Rattle.bintree.specs.declared.point.Corners.{Corners}
@@ -10,7 +10,7 @@ use Rattle.bintree.specs.Meshes.{Triangles, Within, IsMesh, Splits, Corner, OnEd
 use Rattle.bintree.specs.Laws.{Bridge}
 use Rattle.bintree.proofs.Tree.{Node, num, depth, place, by_powers}
 use Rattle.bintree.proofs.Middles.{mean_apex, mean_left, mean_right}
-use Rattle.bintree.proofs.Around.{Near, none, some, around}
+use Rattle.bintree.proofs.Around.{around}
 use Rattle.bintree.proofs.Areas.{turning}
 use Rattle.bintree.proofs.Inside.{settled}
 use Rattle.bintree.proofs.Cracks.{Mesh, Closed, crack_free_closed, closed_crack_free}
@@ -53,12 +53,12 @@ own_corner n q v h c (inr (inl b)) = two_weights n q v b.α b.β 0 h (omega arit
 own_corner n q v h c (inr (inr b)) = two_weights n q v b.β 0 b.α h (omega arith) (omega arith) (omega arith) (record { on_x = omega (arith, b.on_x); on_y = omega (arith, b.on_y) }) (corner_weights v _ c)
 
 -- the partner's number, where there is one, is that of the node across the base
-across : (n i : ℕ) → 2 ≤ i → i < end n → 0 < partner n i → (t : Node) × ((around (node i)).base ≡ some t) × (num t ≡ partner n i)
+across : (n i : ℕ) → 2 ≤ i → i < end n → 0 < partner n i → (t : Node) × ((around (node i)).base ≡ Some t) × (num t ≡ partner n i)
 across n i l u h = go (around (node i)).base refl (partner_is n i l u)
   where
-    go : (z : Near) → (around (node i)).base ≡ z → partner n i ≡ num_near z → (t : Node) × ((around (node i)).base ≡ some t) × (num t ≡ partner n i)
-    go none e f = absurd (omega arith)
-    go (some t) e f = (t, e, sym f)
+    go : (z : Option Node) → (around (node i)).base ≡ z → partner n i ≡ num_near z → (t : Node) × ((around (node i)).base ≡ Some t) × (num t ≡ partner n i)
+    go None e f = absurd (omega arith)
+    go (Some t) e f = (t, e, sym f)
 
 module _ (n : ℕ) (P : Triangles) (M : IsMesh n P) where
   finest_range : (f : Node) → depth f ≡ 2 * n → (first_finest n ≤ num f) × (num f < end n)

@@ -1,7 +1,8 @@
 -- The bridge over the trees: a mesh is crack-free exactly if it splits neighbours across a base together.
 -- From a crack-free mesh: the centre of a split triangle is a corner of a member; were its partner not split, that corner would lie within an edge.
 -- Back: a corner within an edge of a member T is the centre of a triangle in T and of one that the mesh splits; these are equal or partners.
-use Rattle.std.proofs.Common.{◌≡◌, ℕ, zero, suc, ◌+◌, ◌-◌, ◌*◌, ◌^◌, ◌<◌, ◌≤◌, Bool, true, false, T, ◌⊎◌, sym, refl, ap, ◌∙◌, subst, inl, inr, arith, pow_pos}
+use Rattle.std.proofs.Common.{◌≡◌, ℕ, zero, suc, ◌+◌, ◌-◌, ◌*◌, ◌^◌, ◌<◌, ◌≤◌, Bool, true, false, T, ◌⊎◌, sym, refl, ap, ◌∙◌, subst, inl, inr, arith, pow_pos, Some}
+use Rattle.std.proofs.lemmas.Option.{same_Some}
 use Rattle.bintree.specs.declared.point.Point.{Point}
 use Rattle.bintree.specs.Triangles.{centre}
 use Rattle.bintree.specs.Samples.{Mean}
@@ -11,7 +12,7 @@ use Rattle.bintree.proofs.Tree.{Node, two, three, lo, hi, depth, place, Under, u
 use Rattle.bintree.proofs.Shape.{Turn, q0, q1, q2, q3, legged, based, width, height, at_even, at_odd}
 use Rattle.bintree.proofs.Middles.{whole, double, left_over}
 use Rattle.bintree.proofs.Locate.{Single, CentreIn, locate}
-use Rattle.bintree.proofs.Around.{some, around, Swaps, across_base, shared_centre}
+use Rattle.bintree.proofs.Around.{around, Swaps, across_base, shared_centre}
 use Rattle.bintree.proofs.Edge.{PartOf, between_of, Across, edges}
 use Rattle.bintree.proofs.Twins.{centres}
 
@@ -36,7 +37,7 @@ CrackFree n P = (m q : Node) → T (P m) → T (P q) → (v : Point) → Corner 
 
 -- neighbours across a base are split together
 abbrev pub Closed : (Node → Bool) → Type 0
-Closed P = (j t : Node) → (around j).base ≡ some t → Splits P j → Splits P t
+Closed P = (j t : Node) → (around j).base ≡ Some t → Splits P j → Splits P t
 
 -- of two triangles of a mesh none lies over the other
 meet : (n : ℕ) (P : Node → Bool) → Mesh n P → (p q : Node) → T (P p) → T (P q) → Under q p → q ≡ p
@@ -110,11 +111,8 @@ has_corner n P M j s =
     top q hq (inl e) = e
     top q hq (inr u) = absurd (clash n P M q j hq u s)
 
-some_inj : (u v : Node) → some u ≡ some v → u ≡ v
-some_inj u v e = cc
-
 -- no triangle of a crack-free mesh lies over the neighbour across the base of a split one
-no_cover : (n : ℕ) (P : Node → Bool) → Mesh n P → CrackFree n P → (j i q : Node) → (around j).base ≡ some i → Splits P j → T (P q) → Under q i → ⊥
+no_cover : (n : ℕ) (P : Node → Bool) → Mesh n P → CrackFree n P → (j i q : Node) → (around j).base ≡ Some i → Splits P j → T (P q) → Under q i → ⊥
 unfolding Across Meets
 no_cover n P M C j i q e s hq u = go (edges n q i u (omega (arith, h))).base
   where
@@ -127,8 +125,8 @@ no_cover n P M C j i q e s hq u = go (edges n q i u (omega (arith, h))).base
     x : WholeCentre (place (2 ^ n) i)
     x = whole n i h
 
-    go : ((z : Node) × ((around i).base ≡ some z) × Under q z) ⊎ PartOf (place (2 ^ n) i).left (place (2 ^ n) i).right (place (2 ^ n) q) → ⊥
-    go (inl z) = clash n P M q j hq (subst (Under q) (some_inj z.0 j (sym z.1 ∙ w.back)) z.2) s
+    go : ((z : Node) × ((around i).base ≡ Some z) × Under q z) ⊎ PartOf (place (2 ^ n) i).left (place (2 ^ n) i).right (place (2 ^ n) q) → ⊥
+    go (inl z) = clash n P M q j hq (subst (Under q) (same_Some z.0 j (sym z.1 ∙ w.back)) z.2) s
     go (inr z) =
         let m = has_corner n P M j s in
         C m.0 q m.1 hq (centre (place (2 ^ n) j)) m.2
@@ -242,7 +240,7 @@ closed_crack_free n P M C m q hm hq v c o = go (source (2 ^ n) m v c)
     split : (j : Node) → Under j m → depth j < depth m → Splits P j
     split j u l = record { out = λ p. absurd (omega (arith, l, ap depth (meet n P M m j hm p u))); below = m; under = u; inside = hm }
 
-    same : (j : Node) → Splits P j → (cut.0 ≡ j) ⊎ ((around j).base ≡ some cut.0) → Splits P cut.0
+    same : (j : Node) → Splits P j → (cut.0 ≡ j) ⊎ ((around j).base ≡ Some cut.0) → Splits P cut.0
     same j s (inl e) = subst (Splits P) (sym e) s
     same j s (inr e) = C j cut.0 e s
 

@@ -1,11 +1,11 @@
 -- The edge lemma: each edge of a triangle p in k lies within an edge of k, or the neighbour across it lies in k too.
-use Rattle.std.proofs.Common.{◌≡◌, ℕ, ◌+◌, ◌*◌, ◌^◌, ◌<◌, ◌≤◌, ◌⊎◌, sym, refl, ap, subst, inl, inr, arith}
+use Rattle.std.proofs.Common.{◌≡◌, ℕ, ◌+◌, ◌*◌, ◌^◌, ◌<◌, ◌≤◌, ◌⊎◌, sym, refl, ap, subst, inl, inr, arith, Some, Option}
 use Rattle.bintree.specs.declared.point.Point.{Point}
 use Rattle.bintree.specs.declared.point.Corners.{Corners}
 use Rattle.bintree.specs.Meshes.{Between, OnEdge}
 use Rattle.bintree.specs.Laws.{WholeCentre}
 use Rattle.bintree.proofs.Tree.{Node, two, three, lo, hi, depth, place, Under}
-use Rattle.bintree.proofs.Around.{Near, some, lo?, hi?, Ring, around}
+use Rattle.bintree.proofs.Around.{lo?, hi?, Ring, around}
 use Rattle.bintree.proofs.Middles.{whole}
 
 -- the segment p q lies along the segment u w, and is no point
@@ -98,8 +98,8 @@ between_of p q m t ex ey (inr (inl h)) = inr (inl (between_ends p q m _ _ ex ey 
 between_of p q m t ex ey (inr (inr h)) = inr (inr (between_ends p q m _ _ ex ey h))
 
 -- across an edge p q: the neighbour descends from k, or the edge lies within an edge of k
-unfoldable pub Across : ℕ → Node → Near → Point → Point → Type 0
-Across s k z p q = ((u : Node) × (z ≡ some u) × Under k u) ⊎ PartOf p q (place s k)
+unfoldable pub Across : ℕ → Node → Option Node → Point → Point → Type 0
+Across s k z p q = ((u : Node) × (z ≡ Some u) × Under k u) ⊎ PartOf p q (place s k)
 
 -- so for each edge of t, with its neighbours n
 pub record Edges (s : ℕ) (k : Node) (n : Ring) (t : Corners) : Type 0 where
@@ -113,12 +113,12 @@ unfolding Across
 own s k = record { base = inr (inl (self _ _)); left = inr (inr (inl (self _ _))); right = inr (inr (inr (self _ _))) }
 
 -- what lies across an edge of a half, from what lies across that of its parent
-hi_over : (s : ℕ) (k : Node) (z : Near) (p q p' q' : Point) → ((u w : Point) → Part p q u w → Part p' q' u w) → Across s k z p q → Across s k (hi? z) p' q'
+hi_over : (s : ℕ) (k : Node) (z : Option Node) (p q p' q' : Point) → ((u w : Point) → Part p q u w → Part p' q' u w) → Across s k z p q → Across s k (hi? z) p' q'
 unfolding Across
 hi_over s k z p q p' q' f (inl h) = inl (hi h.0, ap hi? h.1, inr h.2)
 hi_over s k z p q p' q' f (inr h) = inr (map_of p q p' q' (place s k) f h)
 
-lo_over : (s : ℕ) (k : Node) (z : Near) (p q p' q' : Point) → ((u w : Point) → Part p q u w → Part p' q' u w) → Across s k z p q → Across s k (lo? z) p' q'
+lo_over : (s : ℕ) (k : Node) (z : Option Node) (p q p' q' : Point) → ((u w : Point) → Part p q u w → Part p' q' u w) → Across s k z p q → Across s k (lo? z) p' q'
 unfolding Across
 lo_over s k z p q p' q' f (inl h) = inl (lo h.0, ap lo? h.1, inr h.2)
 lo_over s k z p q p' q' f (inr h) = inr (map_of p q p' q' (place s k) f h)

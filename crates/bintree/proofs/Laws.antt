@@ -1,5 +1,5 @@
 -- The laws by number, from the trees.
-use Rattle.std.proofs.Common.{◌≡◌, ℕ, suc, ◌+◌, ◌-◌, ◌*◌, ◌^◌, ◌<◌, ◌≤◌, Bool, ◌⊎◌, Decides, sym, ap, ◌∙◌, subst, inl, inr, arith, pow_pos}
+use Rattle.std.proofs.Common.{◌≡◌, ℕ, suc, ◌+◌, ◌-◌, ◌*◌, ◌^◌, ◌<◌, ◌≤◌, Bool, ◌⊎◌, Decides, sym, ap, ◌∙◌, subst, inl, inr, arith, pow_pos, Some}
 use Rattle.bintree.specs.declared.point.Point.{Point}
 use Rattle.bintree.specs.declared.point.Corners.{Corners}
 use Rattle.bintree.specs.Orders.{end, first_finest}
@@ -13,7 +13,7 @@ use Rattle.bintree.proofs.Locate.{apart, Single, CentreIn, single_corner, locate
 use Rattle.bintree.proofs.Areas.{area_of}
 use Rattle.bintree.proofs.Areas as areas
 use Rattle.bintree.proofs.Inside.{Turning, inside, mean_inside, inside_in, in_inside}
-use Rattle.bintree.proofs.Around.{some, around}
+use Rattle.bintree.proofs.Around.{around}
 use Rattle.bintree.proofs.Twins.{centres}
 use Rattle.bintree.proofs.Numbers.{node, num_node, node_num, node_injective, node_low, node_high, corners_is, corners_low, corners_high, level_is, end_twice, depth_of_triangle, depth_of_splittable, splittable_of_depth, within}
 use Rattle.bintree.proofs.Partners.{num_near, partner_is}
@@ -54,7 +54,7 @@ pub same_centre : (n : ℕ) → SameCentre n
 same_centre n i j li ui lj uj e =
     go (centres n (node j) (node i) (depth_of_splittable n j lj uj) (depth_of_splittable n i li ui) (ap centre (sym (corners_is n j)) ∙ (sym e ∙ ap centre (corners_is n i))))
   where
-    go : (node j ≡ node i) ⊎ ((around (node i)).base ≡ some (node j)) → (i ≡ j) ⊎ (partner n i ≡ j)
+    go : (node j ≡ node i) ⊎ ((around (node i)).base ≡ Some (node j)) → (i ≡ j) ⊎ (partner n i ≡ j)
     go (inl z) = inl (node_injective i j li lj (sym z))
     go (inr z) = inr (partner_is n i li (omega (arith, end_twice n)) ∙ (ap num_near z ∙ num_node j lj))
 

@@ -1,7 +1,9 @@
 -- The partner of the definition, the only other triangle of the level with the same two base ends, is the neighbour across the base that the
 -- recursion over the trees finds. That it is the only one follows from the centre lemma, in the square of twice the side, where every base has a whole middle.
-use Rattle.std.proofs.Common.{◌≡◌, ℕ, zero, suc, ◌*◌, ◌^◌, ◌<◌, ◌≤◌, Bool, true, false, ◌&&◌, eqb, ◌⊎◌, sym, refl, ap, ◌∙◌, subst, ap₂, inl, inr, arith}
+use Rattle.std.proofs.Common.{◌≡◌, ℕ, zero, suc, ◌*◌, ◌^◌, ◌<◌, ◌≤◌, Bool, true, false, ◌&&◌, eqb, ◌⊎◌, sym, refl, ap, ◌∙◌, subst, ap₂, inl, inr, arith, Some, None, Option}
+use Rattle.std.specs.Option.{option_map, unwrap_or}
 use Rattle.std.proofs.lemmas.Bool.{cases_eq, and_parts, and_from, or_cases, or_left, or_right, not-true, not_from_false, eqb-true, eqb-false, eq-eqb, ne_eqb, leb-true, le-leb, ltb-true, lt-ltb}
+use Rattle.std.proofs.lemmas.Option.{same_Some, none-some}
 use Rattle.bintree.specs.declared.point.Point.{Point}
 use Rattle.bintree.specs.declared.point.Corners.{Corners}
 use Rattle.bintree.specs.Orders.{end}
@@ -10,7 +12,7 @@ use Rattle.bintree.specs.Laws.{WholeCentre, PartnerLaws}
 use Rattle.bintree.proofs.Tree.{Node, two, three, lo, hi, num, depth, place}
 use Rattle.bintree.proofs.Shape.{point_eq, corners_eq}
 use Rattle.bintree.proofs.Middles.{whole}
-use Rattle.bintree.proofs.Around.{Near, none, some, lo?, hi?, around, across_base}
+use Rattle.bintree.proofs.Around.{lo?, hi?, around, across_base}
 use Rattle.bintree.proofs.Twins.{centres}
 use Rattle.bintree.proofs.Numbers.{node, num_node, num_from_two, node_num, corners_is, level_is, depth_of_triangle, triangle_of_depth}
 
@@ -56,29 +58,29 @@ on_high three = false
 on_high (lo t) = false
 on_high (hi t) = true
 
-not_own : (t : Node) → (around t).base ≡ some t → ⊥
+not_own : (t : Node) → (around t).base ≡ Some t → ⊥
 unfolding around on_high
 not_own two e = let z : three ≡ two = cc in let k : ◌≡◌ {A = ℕ} 0 1 = cc in omega arith
 not_own three e = let k : ◌≡◌ {A = ℕ} 0 1 = cc in omega arith
 not_own (lo t) e = go (around t).left e
   where
-    go : (z : Near) → hi? z ≡ some (lo t) → ⊥
-    go none f = let k : ◌≡◌ {A = ℕ} 0 1 = cc in omega arith
-    go (some u) f = let k : ◌≡◌ {A = ℕ} 0 1 = cc in omega arith
+    go : (z : Option Node) → hi? z ≡ Some (lo t) → ⊥
+    go None f = let k : ◌≡◌ {A = ℕ} 0 1 = cc in omega arith
+    go (Some u) f = let k : ◌≡◌ {A = ℕ} 0 1 = cc in omega arith
 not_own (hi t) e = go (around t).right e
   where
-    go : (z : Near) → lo? z ≡ some (hi t) → ⊥
-    go none f = let k : ◌≡◌ {A = ℕ} 0 1 = cc in omega arith
-    go (some u) f = let k : ◌≡◌ {A = ℕ} 0 1 = cc in omega arith
+    go : (z : Option Node) → lo? z ≡ Some (hi t) → ⊥
+    go None f = let k : ◌≡◌ {A = ℕ} 0 1 = cc in omega arith
+    go (Some u) f = let k : ◌≡◌ {A = ℕ} 0 1 = cc in omega arith
 
 -- the neighbour across the base is a partner, and the only one
-pub to_partner : (n : ℕ) (t u : Node) → (around t).base ≡ some u → Partnered n t u
+pub to_partner : (n : ℕ) (t u : Node) → (around t).base ≡ Some u → Partnered n t u
 unfolding SameEnds
 to_partner n t u e =
     let w = across_base (2 ^ n) t u e in
-    record { differs = λ z. not_own t (e ∙ ap some (sym z)); same = w.same; ends = inr (w.at_left, w.at_right) }
+    record { differs = λ z. not_own t (e ∙ ap Some (sym z)); same = w.same; ends = inr (w.at_left, w.at_right) }
 
-pub from_partner : (n : ℕ) (t u : Node) → depth t ≤ 2 * n → Partnered n t u → (around t).base ≡ some u
+pub from_partner : (n : ℕ) (t u : Node) → depth t ≤ 2 * n → Partnered n t u → (around t).base ≡ Some u
 from_partner n t u h p =
     one (centres (suc n) u t (omega (arith, hu)) (omega arith)
     (ap centre (place_doubled n u hu) ∙ (doubled_centre (place (2 ^ n) u) (place (2 ^ n) t) p.ends ∙ sym (ap centre (place_doubled n t h)))))
@@ -86,7 +88,7 @@ from_partner n t u h p =
     hu : depth u ≤ 2 * n
     hu = omega (arith, p.same)
 
-    one : (u ≡ t) ⊎ ((around t).base ≡ some u) → (around t).base ≡ some u
+    one : (u ≡ t) ⊎ ((around t).base ≡ Some u) → (around t).base ≡ Some u
     one (inl e) = absurd (p.differs (sym e))
     one (inr e) = e
 
@@ -170,31 +172,24 @@ partners_from n i j li ui lj uj p =
     (same_base_from (corners n j) (corners n i) (subst (λ (t : Corners). SameEnds t (corners n i)) (sym (corners_is n j)) (subst (λ (t : Corners). SameEnds (place (2 ^ n) (node j)) t) (sym (corners_is n i)) p.ends))))
 
 -- the number of a neighbour, 0 of none
-abbrev pub num_near : Near → ℕ
-num_near none = 0
-num_near (some t) = num t
-
-none_some : (t : Node) → none ≡ some t → ⊥
-none_some t e = let k : ◌≡◌ {A = ℕ} 0 1 = cc in omega arith
-
-some_injective : (t u : Node) → some t ≡ some u → t ≡ u
-some_injective t u e = cc
+abbrev pub num_near : Option Node → ℕ
+num_near z = unwrap_or (option_map num z) 0
 
 -- the partner of a triangle is the neighbour across its base
 pub partner_is : (n i : ℕ) → 2 ≤ i → i < end n → partner n i ≡ num_near (around (node i)).base
 unfolding partner
 partner_is n i l u = go (around (node i)).base refl
   where
-    go : (z : Near) → (around (node i)).base ≡ z → lowest (partners n i) (end n) ≡ num_near z
-    go none e = lowest_none (partners n i) (end n) (λ j h. not_so (partners n i j) (λ t.
-        none_some (node j) (sym e ∙ from_partner n (node i) (node j) (depth_of_triangle n i l u) (partners_true n i j t).4)))
-    go (some t) e =
+    go : (z : Option Node) → (around (node i)).base ≡ z → lowest (partners n i) (end n) ≡ num_near z
+    go None e = lowest_none (partners n i) (end n) (λ j h. not_so (partners n i j) (λ t.
+        none-some (node j) (sym e ∙ from_partner n (node i) (node j) (depth_of_triangle n i l u) (partners_true n i j t).4)))
+    go (Some t) e =
         let p = to_partner n (node i) t e in
         let lt : num t < end n = triangle_of_depth n t (omega (arith, p.same, depth_of_triangle n i l u)) in
         lowest_one (partners n i) (end n) (num t) (omega (arith, num_from_two t))
         (partners_from n i (num t) l u (num_from_two t) lt (subst (λ (w : Node). Partnered n (node i) w) (sym (node_num t)) p))
         (λ k y. let q = partners_true n i k y in
-        sym (num_node k q.2) ∙ ap num (some_injective (node k) t (sym (from_partner n (node i) (node k) (depth_of_triangle n i l u) q.4) ∙ e)))
+        sym (num_node k q.2) ∙ ap num (same_Some (node k) t (sym (from_partner n (node i) (node k) (depth_of_triangle n i l u) q.4) ∙ e)))
         lt
 
 -- a partner is the partner, since there is only one

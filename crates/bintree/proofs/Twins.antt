@@ -1,6 +1,7 @@
 -- Triangles with one centre are equal, or neighbours across their bases. Idea: below a common triangle, go down with both. A centre on an edge
 -- of the triangle reached has its mirror image beyond that edge, so both can be followed into one half.
-use Rattle.std.proofs.Common.{◌≡◌, ℕ, zero, suc, ◌+◌, ◌*◌, ◌^◌, ◌<◌, ◌≤◌, ◌⊎◌, sym, refl, ap, ◌∙◌, subst, inl, inr, arith, pow_pos}
+use Rattle.std.proofs.Common.{◌≡◌, ℕ, zero, suc, ◌+◌, ◌*◌, ◌^◌, ◌<◌, ◌≤◌, ◌⊎◌, sym, refl, ap, ◌∙◌, subst, inl, inr, arith, pow_pos, Some}
+use Rattle.std.proofs.lemmas.Option.{same_Some}
 use native.Mathlib.Nat.{eq_of_mul-eq-mul_left}
 use Rattle.bintree.specs.declared.point.Point.{Point}
 use Rattle.bintree.specs.Triangles.{centre}
@@ -10,11 +11,11 @@ use Rattle.bintree.proofs.Tree.{Node, two, three, lo, hi, depth, place, Under, u
 use Rattle.bintree.proofs.Areas.{turning}
 use Rattle.bintree.proofs.Inside.{settled}
 use Rattle.bintree.proofs.Middles.{whole, low_mean, high_mean, mean_apex, mean_centre}
-use Rattle.bintree.proofs.Around.{some, lo?, hi?, around, across_base, shared_centre}
+use Rattle.bintree.proofs.Around.{lo?, hi?, around, across_base, shared_centre}
 
 -- t has a neighbour across its base in k
 Mirror : Node → Node → Type 0
-Mirror t k = (u : Node) × Under k u × ((around t).base ≡ some u)
+Mirror t k = (u : Node) × Under k u × ((around t).base ≡ Some u)
 
 -- where the centre of t stands in q, a triangle over t; and if it is on an edge of q, t has its neighbour beyond that edge
 record Stands (n : ℕ) (q t : Node) : Type 0 where
@@ -25,9 +26,9 @@ record Stands (n : ℕ) (q t : Node) : Type 0 where
   lr : 0 < wl + wr
   ra : 0 < wr + wa
   mean : Mean (centre (place (2 ^ n) t)) (place (2 ^ n) q) wa wl wr
-  base : wa ≡ 0 → (k : Node) → (around q).base ≡ some k → Mirror t k
-  left : wr ≡ 0 → (k : Node) → (around q).left ≡ some k → Mirror t k
-  right : wl ≡ 0 → (k : Node) → (around q).right ≡ some k → Mirror t k
+  base : wa ≡ 0 → (k : Node) → (around q).base ≡ Some k → Mirror t k
+  left : wr ≡ 0 → (k : Node) → (around q).left ≡ Some k → Mirror t k
+  right : wl ≡ 0 → (k : Node) → (around q).right ≡ Some k → Mirror t k
 
 -- in t itself: the middle of the base
 stands_self : (n : ℕ) (t : Node) → WholeCentre (place (2 ^ n) t) → Stands n t t
@@ -119,20 +120,17 @@ from_top q (hi t) (inr u) = go (from_top q t u)
 
 -- equal, or neighbours across the base
 Mates : Node → Node → Type 0
-Mates t j = (t ≡ j) ⊎ ((around j).base ≡ some t)
-
-some_inj : (u v : Node) → some u ≡ some v → u ≡ v
-some_inj u v e = cc
+Mates t j = (t ≡ j) ⊎ ((around j).base ≡ Some t)
 
 mates_flip : (t j : Node) → Mates t j → Mates j t
 unfolding Mates
 mates_flip t j (inl e) = inl (sym e)
 mates_flip t j (inr e) = inr (across_base 1 j t e).back
 
-mates_over : (t u j : Node) → (around t).base ≡ some u → Mates u j → Mates t j
+mates_over : (t u j : Node) → (around t).base ≡ Some u → Mates u j → Mates t j
 unfolding Mates
-mates_over t u j e (inl f) = inr (across_base 1 t j (e ∙ ap some f)).back
-mates_over t u j e (inr f) = inl (some_inj t j (sym (across_base 1 t u e).back ∙ (across_base 1 j u f).back))
+mates_over t u j e (inl f) = inr (across_base 1 t j (e ∙ ap Some f)).back
+mates_over t u j e (inr f) = inl (same_Some t j (sym (across_base 1 t u e).back ∙ (across_base 1 j u f).back))
 
 -- a centre is no corner of a triangle over it
 no_apex : (n : ℕ) (q j : Node) → depth j < 2 * n → Under q j → centre (place (2 ^ n) j) ≡ (place (2 ^ n) q).apex → ⊥
@@ -228,7 +226,7 @@ diagonal n t j ht hj u w e =
     s.base (none_beyond (2 ^ n) s.wa s.wl s.wr z.wa z.wl z.wr _ _ (pow_pos n) (omega (arith, z.al)) s.mean.on_x s.mean.on_y m.on_x m.on_y) three refl
 
 -- the centre lemma, for every order
-pub centres : (n : ℕ) (t j : Node) → depth t < 2 * n → depth j < 2 * n → centre (place (2 ^ n) t) ≡ centre (place (2 ^ n) j) → (t ≡ j) ⊎ ((around j).base ≡ some t)
+pub centres : (n : ℕ) (t j : Node) → depth t < 2 * n → depth j < 2 * n → centre (place (2 ^ n) t) ≡ centre (place (2 ^ n) j) → (t ≡ j) ⊎ ((around j).base ≡ Some t)
 unfolding AllMates Mates depth
 centres n t j ht hj e = go (root_over t) (root_over j)
   where

@@ -1,6 +1,7 @@
 -- Areas, bounding boxes, and the points that lie in a closed triangle.
 use Rattle.std.specs.Prelude.{◌≡◌, ℕ, ◌+◌, ◌-◌, ◌*◌, ◌≤◌, min, max}
 use Rattle.bintree.specs.declared.point.Point.{Point}
+use Rattle.bintree.specs.declared.point.Way.{Way}
 use Rattle.bintree.specs.declared.point.Corners.{Corners}
 use Rattle.bintree.specs.declared.point.BoundingBox.{BoundingBox}
 use Rattle.bintree.specs.Triangles.{at}
@@ -11,6 +12,10 @@ rising p q v = p.x * q.y + q.x * v.y + v.x * p.y
 
 abbrev pub falling : Point → Point → Point → ℕ
 falling p q v = p.y * q.x + q.y * v.x + v.y * p.x
+
+-- The way from p to q.
+abbrev pub way : Point → Point → Way
+way p q = record { from = p; to = q }
 
 -- The doubled area of a triangle.
 unfoldable pub area : Corners → ℕ

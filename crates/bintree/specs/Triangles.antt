@@ -27,12 +27,16 @@ low_half t = tri (centre t) t.apex t.left
 abbrev pub high_half : Corners → Corners
 high_half t = tri (centre t) t.right t.apex
 
+-- The triangle with its apex at (near, near) and its base on the diagonal: the left corner at (far, near), the right one at (near, far).
+abbrev pub root_at : ℕ → ℕ → Corners
+root_at near far = tri (at near near) (at far near) (at near far)
+
 -- The roots of a square of side s: its triangles 2 and 3, on either side of the diagonal from (s, 0) to (0, s).
 abbrev pub root_two : ℕ → Corners
-root_two s = tri (at 0 0) (at s 0) (at 0 s)
+root_two s = root_at 0 s
 
 abbrev pub root_three : ℕ → Corners
-root_three s = tri (at s s) (at 0 s) (at s 0)
+root_three s = root_at s 0
 
 -- Triangle i of a square of side s: a root, or else a half of triangle i / 2, the low one where i is even. (k bounds the depth, and i always suffices.)
 abbrev pub corners_at : ℕ → ℕ → ℕ → Corners

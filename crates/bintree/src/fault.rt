@@ -1,5 +1,17 @@
+// Why a number was refused.
+use std::error::Error;
+use std::fmt;
+
 // The order that was asked for is none: refusal 7.
-#[derive(Clone, Copy, Debug)]
+#[derive(Clone, Copy, PartialEq, Eq, Debug)]
 pub struct OrderFault {
     pub order: u8,
 }
+
+impl fmt::Display for OrderFault {
+    fn fmt<W: fmt::Write>(&self, f: &mut fmt::Formatter<W>) -> fmt::Result {
+        write!(f, "refused 7 order {}", self.order)
+    }
+}
+
+impl Error for OrderFault {}

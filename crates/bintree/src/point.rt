@@ -5,6 +5,13 @@ pub struct Point {
     pub y: u32,
 }
 
+// The straight way from one point to another.
+#[derive(Clone, Copy, PartialEq, Eq, Debug)]
+pub struct Way {
+    pub from: Point,
+    pub to: Point,
+}
+
 // The corners of a triangle: its apex, and the left and the right end of its base.
 #[derive(Clone, Copy, PartialEq, Eq, Debug)]
 pub struct Corners {

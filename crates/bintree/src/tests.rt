@@ -5,17 +5,13 @@ use crate::triangle::Triangle;
 use std::test::Fail;
 
 fn triangle(order: u8, number: u32) -> Option<Triangle> {
-    match Order::new(order) {
-        Ok(order) => order.triangle(number),
-        Err(_) => None,
-    }
+    Order::new(order).ok()?.triangle(number)
 }
 
+// The number of a triangle's partner, 0 for none.
 fn partner(order: u8, number: u32) -> Option<u32> {
-    match triangle(order, number) {
-        Some(t) => Some(t.partner()),
-        None => None,
-    }
+    let partner = triangle(order, number)?.partner();
+    Some(partner.map_or(0, Triangle::number))
 }
 
 fn corners(a: (u32, u32), l: (u32, u32), r: (u32, u32)) -> Corners {

@@ -11,13 +11,11 @@ impl Order {
     pub fn new(n: u8) -> Result<Order, OrderFault>
         ensures { told order_value order_refusal result ≡ ordering n }
     {
-        if n < 1 {
-            return Err(OrderFault { order: n });
+        if (1..=6).contains(&n) {
+            Ok(Order { n })
+        } else {
+            Err(OrderFault { order: n })
         }
-        if n > 6 {
-            return Err(OrderFault { order: n });
-        }
-        Ok(Order { n })
     }
 
     pub fn value(self) -> u8

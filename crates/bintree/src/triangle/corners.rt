@@ -1,10 +1,10 @@
 // Where triangles lie: corners, centres and bounding boxes.
 ghost use Rattle.std.specs.Prelude.{◌≡◌, ◌+◌, ◌*◌, ◌/◌, ◌<◌, ◌≤◌, true, false, MatchOption};
 ghost use Rattle.bintree.specs.Orders.{first_finest};
-ghost use Rattle.bintree.specs.Triangles.{middle as middle_of, centre as centre_of, low_half, high_half, root_two, root_three, corners as corners_of};
+ghost use Rattle.bintree.specs.Triangles.{middle as middle_of, centre as centre_of, low_half, high_half, root_at};
 ghost use Rattle.bintree.specs.Samples.{box};
 ghost use Rattle.bintree.specs.Laws.{CornerLaws, SameCentre, BoxesNest};
-ghost use Rattle.bintree.specs.Views.{order_value, order_of, number_of};
+ghost use Rattle.bintree.specs.Views.{order_value, order_of, number_of, corners_of};
 
 use crate::point::{BoundingBox, Corners, Point};
 use crate::triangle::Triangle;
@@ -38,41 +38,30 @@ fn high_half(t: Corners) -> Corners
     }
 }
 
-// Triangle 2 of a square of this side: below the diagonal.
-fn root_two(side: u32) -> Corners
-    ensures { result ≡ root_two side }
+// A root of a square: its apex at the corner (near, near), its base on the diagonal.
+fn root(near: u32, far: u32) -> Corners
+    ensures { result ≡ root_at near far }
 {
     Corners {
-        apex: Point { x: 0, y: 0 },
-        left: Point { x: side, y: 0 },
-        right: Point { x: 0, y: side },
-    }
-}
-
-// Triangle 3: above the diagonal.
-fn root_three(side: u32) -> Corners
-    ensures { result ≡ root_three side }
-{
-    Corners {
-        apex: Point { x: side, y: side },
-        left: Point { x: 0, y: side },
-        right: Point { x: side, y: 0 },
+        apex: Point { x: near, y: near },
+        left: Point { x: far, y: near },
+        right: Point { x: near, y: far },
     }
 }
 
 impl Triangle {
     // The corners: those of a root, or of a half of the parent.
     pub fn corners(self) -> Corners
-        ensures value { result ≡ corners_of (order_of self) (number_of self) }
+        ensures value { result ≡ corners_of self }
         ensures laws { CornerLaws (order_of self) }
     {
         match self.parent() {
             None => {
                 let side = self.order.side();
                 if self.number == 2 {
-                    root_two(side)
+                    root(0, side)
                 } else {
-                    root_three(side)
+                    root(side, 0)
                 }
             }
             Some(parent) => {
@@ -90,7 +79,7 @@ impl Triangle {
     pub fn centre(self) -> Option<Point>
         ensures value { MatchOption result
             (first_finest (order_of self) ≤ number_of self)
-            (λ c. (number_of self < first_finest (order_of self)) × (c ≡ centre_of (corners_of (order_of self) (number_of self)))) }
+            (λ c. (number_of self < first_finest (order_of self)) × (c ≡ centre_of (corners_of self))) }
         ensures laws { SameCentre (order_of self) }
     {
         if self.number >= self.order.first_finest() {
@@ -102,7 +91,7 @@ impl Triangle {
 
     // The smallest box that holds the corners.
     pub fn bounding_box(self) -> BoundingBox
-        ensures value { result ≡ box (corners_of (order_of self) (number_of self)) }
+        ensures value { result ≡ box (corners_of self) }
         ensures laws { BoxesNest (order_of self) }
     {
         let t = self.corners();

@@ -1,9 +1,9 @@
 // Triangles by their numbers: levels, parents and halves.
 ghost use Rattle.std.specs.Prelude.{◌≡◌, ◌+◌, ◌*◌, ◌/◌, ◌<◌, ◌≤◌, true, false, MatchOption};
-ghost use Rattle.bintree.specs.Orders.{first_finest, is_triangle};
+ghost use Rattle.bintree.specs.Orders.{end, first_finest, is_triangle};
 ghost use Rattle.bintree.specs.Triangles.{level as level_of};
 ghost use Rattle.bintree.specs.Laws.{LevelLaws};
-ghost use Rattle.bintree.specs.Views.{order_value, order_of, number_of};
+ghost use Rattle.bintree.specs.Views.{order_value, order_of, number_of, Is};
 
 use crate::order::Order;
 use crate::triangle::Triangle;
@@ -13,18 +13,23 @@ impl Order {
     pub fn triangle(self, number: u32) -> Option<Triangle>
         ensures { MatchOption result
             (is_triangle (order_value self) number ≡ false)
-            (λ t. (is_triangle (order_value self) number ≡ true) × (order_of t ≡ order_value self) × (number_of t ≡ number)) }
+            (λ t. (is_triangle (order_value self) number ≡ true) × Is t (order_value self) number) }
     {
-        if number < 2 {
+        if number < 2 || number >= self.end() {
             return None;
         }
-        if number >= self.end() {
-            return None;
-        }
-        Some(Triangle {
+        Some(self.at(number))
+    }
+
+    fn at(self, number: u32) -> Triangle
+        requires low { 2 ≤ number }
+        requires high { number < end (order_value self) }
+        ensures { Is result (order_value self) number }
+    {
+        Triangle {
             order: self,
             number,
-        })
+        }
     }
 }
 
@@ -53,15 +58,12 @@ impl Triangle {
     pub fn parent(self) -> Option<Triangle>
         ensures { MatchOption result
             (number_of self < 4)
-            (λ t. (4 ≤ number_of self) × (order_of t ≡ order_of self) × (number_of t ≡ number_of self / 2)) }
+            (λ t. (4 ≤ number_of self) × Is t (order_of self) (number_of self / 2)) }
     {
         if self.number < 4 {
             return None;
         }
-        Some(Triangle {
-            order: self.order,
-            number: self.number / 2,
-        })
+        Some(self.order.at(self.number / 2))
     }
 
     // The low and the high half; a finest triangle has none.
@@ -69,20 +71,13 @@ impl Triangle {
         ensures { MatchOption result
             (first_finest (order_of self) ≤ number_of self)
             (λ h. (number_of self < first_finest (order_of self))
-            × (order_of h.0 ≡ order_of self) × (number_of h.0 ≡ 2 * number_of self)
-            × (order_of h.1 ≡ order_of self) × (number_of h.1 ≡ 2 * number_of self + 1)) }
+            × Is h.0 (order_of self) (2 * number_of self) × Is h.1 (order_of self) (2 * number_of self + 1)) }
     {
         if self.number >= self.order.first_finest() {
             return None;
         }
-        let low = Triangle {
-            order: self.order,
-            number: 2 * self.number,
-        };
-        let high = Triangle {
-            order: self.order,
-            number: 2 * self.number + 1,
-        };
+        let low = self.order.at(2 * self.number);
+        let high = self.order.at(2 * self.number + 1);
         Some((low, high))
     }
 }

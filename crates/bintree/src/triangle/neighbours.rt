@@ -1,34 +1,33 @@
 // The neighbours of a triangle on its own level, and among them its partner.
-ghost use Rattle.std.specs.Prelude.{◌≡◌, ◌+◌, ◌*◌, ◌<◌, ◌≤◌};
+ghost use Rattle.std.specs.Prelude.{◌≡◌, ◌+◌, ◌*◌, ◌<◌, ◌≤◌, MatchOption};
 ghost use Rattle.bintree.specs.Triangles.{partner as partner_of};
 ghost use Rattle.bintree.specs.Laws.{PartnerLaws, Bridge};
-ghost use Rattle.bintree.specs.Neighbours.{neighbours as neighbours_of, BelowTwice, low_of, high_of};
-ghost use Rattle.bintree.specs.Views.{order_of, number_of};
+ghost use Rattle.bintree.specs.Neighbours.{neighbours as neighbours_of, BelowTwice};
+ghost use Rattle.bintree.specs.Views.{order_of, number_of, Is};
 
 use crate::triangle::Triangle;
 
-// The triangles of the same level across the base, the left edge (apex to left) and the right edge (right to apex); 0 for none.
+// The numbers of the triangles of the same level across the base, the left edge (apex to left) and the right edge (right to apex).
 #[derive(Clone, Copy)]
 struct Neighbours {
-    base: u32,
-    left: u32,
-    right: u32,
+    base: Option<u32>,
+    left: Option<u32>,
+    right: Option<u32>,
 }
 
-// The low half of a neighbour, 0 of none.
-fn low_of(i: u32) -> u32
+// The number of the low half of triangle i, and of the high one. (Two functions, so that `map` takes each by its name.)
+fn low(i: u32) -> u32
     requires { i < 32768 }
-    ensures { result ≡ low_of i }
+    ensures { result ≡ 2 * i }
 {
     2 * i
 }
 
-// The high half of a neighbour, 0 of none.
-fn high_of(i: u32) -> u32
+fn high(i: u32) -> u32
     requires { i < 32768 }
-    ensures { result ≡ high_of i }
+    ensures { result ≡ 2 * i + 1 }
 {
-    if i == 0 { 0 } else { 2 * i + 1 }
+    2 * i + 1
 }
 
 impl Triangle {
@@ -37,37 +36,37 @@ impl Triangle {
         ensures value { result ≡ neighbours_of (number_of self) }
         ensures bound { BelowTwice (number_of self) result }
     {
-        match self.parent() {
-            None => Neighbours {
-                base: 5 - self.number,
-                left: 0,
-                right: 0,
-            },
-            Some(parent) => {
-                let up = parent.neighbours();
-                if self.number % 2 == 0 {
-                    Neighbours {
-                        base: high_of(up.left),
-                        left: self.number + 1,
-                        right: high_of(up.base),
-                    }
-                } else {
-                    Neighbours {
-                        base: low_of(up.right),
-                        left: low_of(up.base),
-                        right: self.number - 1,
-                    }
-                }
+        let Some(parent) = self.parent() else {
+            return Neighbours {
+                base: Some(5 - self.number),
+                left: None,
+                right: None,
+            };
+        };
+        let up = parent.neighbours();
+        if self.number % 2 == 0 {
+            Neighbours {
+                base: up.left.map(high),
+                left: Some(self.number + 1),
+                right: up.base.map(high),
+            }
+        } else {
+            Neighbours {
+                base: up.right.map(low),
+                left: up.base.map(low),
+                right: Some(self.number - 1),
             }
         }
     }
 
-    // The number of the other triangle of this level with the same two base ends; 0 where the base lies on the border.
-    pub fn partner(self) -> u32
-        ensures value { result ≡ partner_of (order_of self) (number_of self) }
+    // The other triangle of this level with the same two base ends; none where the base lies on the border.
+    pub fn partner(self) -> Option<Triangle>
+        ensures value { MatchOption result
+            (partner_of (order_of self) (number_of self) ≡ 0)
+            (λ p. (0 < partner_of (order_of self) (number_of self)) × Is p (order_of self) (partner_of (order_of self) (number_of self))) }
         ensures laws { PartnerLaws (order_of self) (number_of self) }
         ensures bridge { Bridge (order_of self) }
     {
-        self.neighbours().base
+        self.order.triangle(self.neighbours().base?)
     }
 }
