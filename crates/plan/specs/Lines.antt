@@ -1,14 +1,20 @@
 -- Lines on the plan, and when one meets a triangle.
 use Rattle.std.specs.Prelude.{◌≡◌, ℕ, ◌+◌, ◌*◌, ◌<◌, Bool, not, ◌&&◌, nat_lt}
 use Rattle.bintree.specs.declared.point.Point.{Point}
+use Rattle.bintree.specs.declared.point.Way.{Way}
 use Rattle.bintree.specs.declared.point.Corners.{Corners}
 use Rattle.bintree.specs.Triangles.{at}
-use Rattle.bintree.specs.Samples.{rising, falling}
+use Rattle.bintree.specs.Samples.{rising, falling, way}
 use Rattle.plan.specs.declared.spot.Spot.{Spot}
+use Rattle.plan.specs.declared.spot.Line.{Line}
 
 -- A spot as a point of the samples' plane.
 abbrev pub spot_point : Spot → Point
 spot_point s = at s.x s.y
+
+-- A line as the way from one of its ends to the other.
+abbrev pub line_way : Line → Way
+line_way l = way (spot_point l.from) (spot_point l.to)
 
 -- The closed line between a and b and the closed triangle t have a point in common: the mean of a and b with the weights u and v is the mean
 -- of the corners with the weights wa, wl and wr. Weights are whole, and none is negative.

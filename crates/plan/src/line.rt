@@ -1,78 +1,47 @@
 // Which triangles a line meets.
 ghost use Rattle.std.specs.Prelude.{◌≡◌, Decides};
-ghost use Rattle.bintree.specs.Triangles.{corners as corners_of};
-ghost use Rattle.bintree.specs.Views.{order_of, number_of};
-ghost use Rattle.plan.specs.Lines.{spot_point, Meets, beyond as beyond_of, cut_off, all_beyond, meets as meets_of};
+ghost use Rattle.std.specs.List.{list_all};
+ghost use Rattle.bintree.specs.Samples.{way};
+ghost use Rattle.bintree.specs.Views.{corners_of};
+ghost use Rattle.plan.specs.Lines.{line_way, Meets, beyond as beyond_of, meets as meets_of};
 
-use crate::spot::{Line, Spot};
-use bintree::point::{Corners, Point};
+use crate::spot::Line;
+use bintree::point::{Corners, Point, Way};
 use bintree::triangle::Triangle;
-use bintree::triangle::samples::beside;
 
-// Whether v lies strictly to the right of the way from p to q.
-fn beyond(p: Point, q: Point, v: Point) -> bool
-    ensures { result ≡ beyond_of p q v }
+// Whether all points lie strictly to the right of the way.
+fn beyond(way: Way, points: &[Point]) -> bool
+    ensures { result ≡ list_all (beyond_of way.from way.to) points.now }
 {
-    !beside(p, q, v)
+    points.iter().all(|point| !way.beside(*point))
 }
 
-// Whether both a and b lie beyond the edge from p to q.
-fn both_beyond(p: Point, q: Point, a: Point, b: Point) -> bool
-    ensures { result ≡ cut_off p q a b }
+// The way back.
+fn back(there: Way) -> Way
+    ensures { result ≡ way there.to there.from }
 {
-    if beyond(p, q, a) {
-        beyond(p, q, b)
-    } else {
-        false
-    }
-}
-
-// Whether all corners lie strictly to the right of the way from a to b.
-fn corners_beyond(a: Point, b: Point, t: Corners) -> bool
-    ensures { result ≡ all_beyond a b t }
-{
-    if both_beyond(a, b, t.apex, t.left) {
-        beyond(a, b, t.right)
-    } else {
-        false
-    }
-}
-
-// The spot as a point of the samples' plane.
-fn point(s: Spot) -> Point
-    ensures { result ≡ spot_point s }
-{
-    Point {
-        x: u32::from(s.x),
-        y: u32::from(s.y),
+    Way {
+        from: there.to,
+        to: there.from,
     }
 }
 
 // Whether neither an edge of the triangle nor the way along the line parts the two.
-fn unparted(a: Point, b: Point, t: Corners) -> bool
-    ensures { result ≡ meets_of a b t }
+fn unparted(line: Way, t: Corners) -> bool
+    ensures { result ≡ meets_of line.from line.to t }
 {
-    if both_beyond(t.left, t.right, a, b) {
-        return false;
-    }
-    if both_beyond(t.right, t.apex, a, b) {
-        return false;
-    }
-    if both_beyond(t.apex, t.left, a, b) {
-        return false;
-    }
-    if corners_beyond(a, b, t) {
-        return false;
-    }
-    !corners_beyond(b, a, t)
+    let ends = [line.from, line.to];
+    let corners = [t.apex, t.left, t.right];
+    let cut_off = t.edges().iter().any(|edge| beyond(*edge, &ends));
+    !(cut_off || beyond(line, &corners) || beyond(back(line), &corners))
 }
 
 impl Line {
     // Whether the closed line and the closed triangle have a point in common.
     pub fn meets(self, triangle: Triangle) -> bool
-        ensures value { result ≡ meets_of (spot_point self.from) (spot_point self.to) (corners_of (order_of triangle) (number_of triangle)) }
-        ensures geometry { Decides result (Meets (spot_point self.from) (spot_point self.to) (corners_of (order_of triangle) (number_of triangle))) }
+        ensures value { result ≡ meets_of (line_way self).from (line_way self).to (corners_of triangle) }
+        ensures geometry { Decides result (Meets (line_way self).from (line_way self).to (corners_of triangle)) }
     {
-        unparted(point(self.from), point(self.to), triangle.corners())
+        unparted(Way::from(self), triangle.corners())
     }
 }

@@ -4,10 +4,7 @@ use bintree::order::Order;
 use bintree::triangle::Triangle;
 
 fn triangle(number: u32) -> Option<Triangle> {
-    match Order::new(1) {
-        Ok(order) => order.triangle(number),
-        Err(_) => None,
-    }
+    Order::new(1).ok()?.triangle(number)
 }
 
 fn spot(at: (u8, u8)) -> Spot {
@@ -24,17 +21,8 @@ fn meets(from: (u8, u8), to: (u8, u8), number: u32) -> Option<bool> {
         from: spot(to),
         to: spot(from),
     };
-    match triangle(number) {
-        Some(t) => {
-            let met = there.meets(t);
-            if back.meets(t) == met {
-                Some(met)
-            } else {
-                None
-            }
-        }
-        None => None,
-    }
+    let t = triangle(number)?;
+    Some(there.meets(t)).filter(|met| back.meets(t) == *met)
 }
 
 // Whether the rectangle touches the triangle's box; it does so whichever corners it is given by.
@@ -47,17 +35,8 @@ fn touches(corner: (u8, u8), opposite: (u8, u8), number: u32) -> Option<bool> {
         corner: spot((opposite.0, corner.1)),
         opposite: spot((corner.0, opposite.1)),
     };
-    match triangle(number) {
-        Some(t) => {
-            let touched = given.touches(t);
-            if turned.touches(t) == touched {
-                Some(touched)
-            } else {
-                None
-            }
-        }
-        None => None,
-    }
+    let t = triangle(number)?;
+    Some(given.touches(t)).filter(|touched| turned.touches(t) == *touched)
 }
 
 #[test]

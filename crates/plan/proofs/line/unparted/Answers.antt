@@ -1,73 +1,54 @@
-use Rattle.std.proofs.Common.{◌≡◌, Bool, true, false, not, ◌&&◌, ap, ◌∙◌}
+use Rattle.std.proofs.Common.{◌≡◌, Bool, true, false, not, ◌||◌, List, [], ◌∷◌, ap, ◌∙◌, rules}
+use Rattle.std.specs.List.{list_all, list_any}
+use Rattle.std.proofs.lemmas.Iterator.{YieldsList-from_slice}
+use Rattle.std.proofs.lemmas.Iterator.Search.{any_from_yields_List}
 use Rattle.bintree.specs.declared.point.Point.{Point}
+use Rattle.bintree.specs.declared.point.Way.{Way}
 use Rattle.bintree.specs.declared.point.Corners.{Corners}
-use Rattle.plan.specs.Lines.{cut_off, all_beyond, meets}
+use Rattle.bintree.specs.Samples.{way}
+use Rattle.plan.specs.Lines.{beyond, meets}
+use Rattle.plan.proofs.line.unparted.Goals.{then-cut_off, else-cut_off, then-beyond, else-beyond}
 use Rattle.plan.proofs.line.unparted.Goals as goal
 
--- the five tests in turn
-abbrev none_of : Bool → Bool → Bool → Bool → Bool → Bool
-none_of a b c d e = not a && (not b && (not c && (not d && not e)))
+-- the edge cuts both points off; all corners lie beyond the way
+abbrev cuts : Point → Point → Way → Bool
+cuts a b w = list_all (beyond w.from w.to) (a ∷ b ∷ [])
 
-first : (a b c d e : Bool) → true ≡ a → false ≡ none_of a b c d e
-first a b c d e h = rw (← h)
+abbrev corners_beyond : Way → Corners → Bool
+corners_beyond w t = list_all (beyond w.from w.to) (t.apex ∷ t.left ∷ t.right ∷ [])
 
-second : (a b c d e : Bool) → false ≡ a → true ≡ b → false ≡ none_of a b c d e
-second a b c d e h i = rw (← h, ← i)
+-- a test that is made only where the one before it fails
+either_first : (a v d : Bool) → v ≡ a → a ≡ true → v ≡ (a || d)
+either_first a v d e f = cc
 
-third : (a b c d e : Bool) → false ≡ a → false ≡ b → true ≡ c → false ≡ none_of a b c d e
-third a b c d e h i j = rw (← h, ← i, ← j)
+either_second : (a v r d : Bool) → v ≡ r → a ≡ false → r ≡ d → v ≡ (a || d)
+either_second a v r d e f g = cc
 
-fourth : (a b c d e : Bool) → false ≡ a → false ≡ b → false ≡ c → true ≡ d → false ≡ none_of a b c d e
-fourth a b c d e h i j k = rw (← h, ← i, ← j, ← k)
-
-fifth : (a b c d e : Bool) → false ≡ a → false ≡ b → false ≡ c → false ≡ d → not e ≡ none_of a b c d e
-fifth a b c d e h i j k = rw (← h, ← i, ← j, ← k)
-
+-- the tests in turn are those of the definition
 module _ (a b : Point) (t : Corners) where
-  abbrev by_base : Bool
-  by_base = cut_off t.left t.right a b
+  abbrev edges : List Way
+  edges = way t.left t.right ∷ way t.right t.apex ∷ way t.apex t.left ∷ []
 
-  abbrev by_right : Bool
-  by_right = cut_off t.right t.apex a b
+  abbrev parted : Bool
+  parted = (list_any (cuts a b) edges || corners_beyond (way a b) t) || corners_beyond (way b a) t
 
-  abbrev by_left : Bool
-  by_left = cut_off t.apex t.left a b
-
-  at_first : true ≡ by_base → false ≡ meets a b t
+  in_turn : not parted ≡ meets a b t
   unfolding meets
-  at_first = first by_base by_right by_left (all_beyond a b t) (all_beyond b a t)
-
-  at_second : false ≡ by_base → true ≡ by_right → false ≡ meets a b t
-  unfolding meets
-  at_second = second by_base by_right by_left (all_beyond a b t) (all_beyond b a t)
-
-  at_third : false ≡ by_base → false ≡ by_right → true ≡ by_left → false ≡ meets a b t
-  unfolding meets
-  at_third = third by_base by_right by_left (all_beyond a b t) (all_beyond b a t)
-
-  at_fourth : false ≡ by_base → false ≡ by_right → false ≡ by_left → true ≡ all_beyond a b t → false ≡ meets a b t
-  unfolding meets
-  at_fourth = fourth by_base by_right by_left (all_beyond a b t) (all_beyond b a t)
-
-  at_fifth : false ≡ by_base → false ≡ by_right → false ≡ by_left → false ≡ all_beyond a b t → not (all_beyond b a t) ≡ meets a b t
-  unfolding meets
-  at_fifth = fifth by_base by_right by_left (all_beyond a b t) (all_beyond b a t)
-
-pub returns-then-both_beyond : goal.returns-then-both_beyond
-returns-then-both_beyond c = at_first c.args.a c.args.b c.args.t c.if-both_beyond.ensures
-
-pub returns-then-both_beyond-2 : goal.returns-then-both_beyond-2
-returns-then-both_beyond-2 c = at_second c.args.a c.args.b c.args.t c.if-both_beyond.ensures c.if-both_beyond-2.ensures
-
-pub returns-then-both_beyond-3 : goal.returns-then-both_beyond-3
-returns-then-both_beyond-3 c =
-    at_third c.args.a c.args.b c.args.t c.if-both_beyond.ensures c.if-both_beyond-2.ensures c.if-both_beyond-3.ensures
-
-pub returns-then-corners_beyond : goal.returns-then-corners_beyond
-returns-then-corners_beyond c =
-    at_fourth c.args.a c.args.b c.args.t c.if-both_beyond.ensures c.if-both_beyond-2.ensures c.if-both_beyond-3.ensures c.if-corners_beyond.ensures
+  in_turn = grind rules
 
 pub returns : goal.returns
 returns c =
-    ap not c.corners_beyond-2.ensures
-    ∙ at_fifth c.args.a c.args.b c.args.t c.if-both_beyond.ensures c.if-both_beyond-2.ensures c.if-both_beyond-3.ensures c.if-corners_beyond.ensures
+    let a = c.args.line.from in
+    let b = c.args.line.to in
+    let t = c.args.t in
+    let cut : c.any-cut_off.result ≡ list_any (cuts a b) (edges a b t) =
+    any_from_yields_List (cuts a b) _ _ _ c.any-cut_off.ensures.ran (YieldsList-from_slice c.edges.result cc) (λ x r q k. search rules) ∙ ap (list_any (cuts a b)) c.edges.ensures in
+    let right : c.if-cut_off.value ≡ (c.any-cut_off.result || corners_beyond (way a b) t) = elim c.if-cut_off.branch [
+      | then-cut_off w ↦ either_first _ _ _ w.value-is w.if-cut_off.true
+      | else-cut_off w ↦ either_second _ _ _ _ w.value-is w.if-cut_off.false w.beyond.ensures
+    ] in
+    let left : c.if-beyond.result ≡ (c.if-cut_off.value || corners_beyond (way b a) t) = elim c.if-beyond.branch [
+      | then-beyond w ↦ either_first _ _ _ w.result-is w.if-beyond.true
+      | else-beyond w ↦ either_second _ _ _ _ w.result-is w.if-beyond.false (w.beyond-else-beyond.ensures ∙ ap (λ (u : Way). corners_beyond u t) w.back.ensures)
+    ] in
+    ap not (left ∙ ap (λ (v : Bool). v || corners_beyond (way b a) t) (right ∙ ap (λ (v : Bool). v || corners_beyond (way a b) t) cut)) ∙ in_turn a b t
