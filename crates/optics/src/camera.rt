@@ -1,3 +1,6 @@
+use std::error::Error;
+use std::fmt;
+
 // A camera as it is handed in. An eye coordinate, in spacings, is −1,024 to 1,024; a focal length is at least 0.0625 and below 4,096.
 #[derive(Clone, Copy, Debug)]
 pub enum Camera {
@@ -12,3 +15,16 @@ pub enum CameraFault {
     EyeY,
     Focal,
 }
+
+impl fmt::Display for CameraFault {
+    fn fmt<W: fmt::Write>(&self, f: &mut fmt::Formatter<W>) -> fmt::Result {
+        let field = match self {
+            CameraFault::EyeX => 1,
+            CameraFault::EyeY => 2,
+            CameraFault::Focal => 3,
+        };
+        write!(f, "refused 10 field {field}")
+    }
+}
+
+impl Error for CameraFault {}

@@ -1,8 +1,7 @@
 ghost use Rattle.std.specs.Prelude.{◌≡◌, ◌*◌, ◌^◌, ◌<◌, ◌≤◌};
-ghost use Rattle.bintree.specs.Triangles.{corners as corners_of};
 ghost use Rattle.bintree.specs.Samples.{box};
 ghost use Rattle.bintree.specs.Refusals.{told};
-ghost use Rattle.bintree.specs.Views.{order_of, number_of};
+ghost use Rattle.bintree.specs.Views.{corners_of};
 ghost use Rattle.optics.specs.Cameras.{eye_sixteenths, focal_sixteenths, focusing, camera_refusal};
 ghost use Rattle.optics.specs.Lenses.{gap as gap_of, distance as distance_of, seen as seen_of};
 
@@ -36,7 +35,8 @@ fn eye_sixteenths(x: f32) -> Option<i16>
     }
 }
 
-// The sixteenths of a focal length, the fraction dropped.
+// The sixteenths of a focal length, the fraction dropped. (Not one function with the eye's: the ranges end differently, one closed and one open, and the
+// numbers are signed there and not here; as parameters these would say less.)
 fn focal_sixteenths(x: f32) -> Option<u16>
     ensures { result ≡ focal_sixteenths x }
 {
@@ -47,12 +47,14 @@ fn focal_sixteenths(x: f32) -> Option<u16>
     }
 }
 
-impl Camera {
-    // The camera in whole sixteenths, or refusal 10 with its first field that will not do.
-    pub fn lens(self) -> Result<Lens, CameraFault>
-        ensures { told (λ l. l) camera_refusal result ≡ focusing self }
-    {
-        match self {
+// The camera in whole sixteenths, or refusal 10 with its first field that will not do.
+impl TryFrom<Camera> for Lens {
+    type Error = CameraFault;
+
+    ghost try_from_gives = { λ c r. told (λ l. l) camera_refusal r ≡ focusing c };
+
+    fn try_from(camera: Camera) -> Result<Lens, CameraFault> {
+        let (eye, focal) = match camera {
             Camera::Perspective {
                 eye_x,
                 eye_y,
@@ -60,17 +62,12 @@ impl Camera {
             } => {
                 let x = eye_sixteenths(eye_x).ok_or(CameraFault::EyeX)?;
                 let y = eye_sixteenths(eye_y).ok_or(CameraFault::EyeY)?;
-                let focal = focal_sixteenths(focal).ok_or(CameraFault::Focal)?;
-                Ok(Lens {
-                    eye: Some(Eye { x, y }),
-                    focal,
-                })
+                (Some(Eye { x, y }), focal)
             }
-            Camera::Overhead { focal } => {
-                let focal = focal_sixteenths(focal).ok_or(CameraFault::Focal)?;
-                Ok(Lens { eye: None, focal })
-            }
-        }
+            Camera::Overhead { focal } => (None, focal),
+        };
+        let focal = focal_sixteenths(focal).ok_or(CameraFault::Focal)?;
+        Ok(Lens { eye, focal })
     }
 }
 
@@ -112,14 +109,10 @@ impl Lens {
 
     // What a bound on the triangle comes to through this lens: times the focal length, over the distance and one spacing; 4,294,967,295 at most.
     pub fn seen(self, bound: u32, triangle: Triangle) -> u32
-        ensures { result ≡ seen_of self bound (box (corners_of (order_of triangle) (number_of triangle))) }
+        ensures { result ≡ seen_of self bound (box (corners_of triangle)) }
     {
         let far = self.distance(triangle.bounding_box());
         let whole = u64::from(bound) * u64::from(self.focal) / (far + 16);
-        if whole > 4294967295 {
-            u32::MAX
-        } else {
-            whole as u32
-        }
+        whole.min(u64::from(u32::MAX)) as u32
     }
 }

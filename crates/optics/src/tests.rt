@@ -1,26 +1,17 @@
 // Cameras tried on examples.
 use crate::camera::{Camera, CameraFault};
+use crate::lens::Lens;
 use bintree::order::Order;
 
 // What 1,000 comes to on a triangle of order 1.
 fn seen(camera: Camera, number: u32) -> Option<u32> {
-    let Ok(lens) = camera.lens() else {
-        return None;
-    };
-    let Ok(order) = Order::new(1) else {
-        return None;
-    };
-    match order.triangle(number) {
-        Some(t) => Some(lens.seen(1000, t)),
-        None => None,
-    }
+    let lens = Lens::try_from(camera).ok()?;
+    let t = Order::new(1).ok()?.triangle(number)?;
+    Some(lens.seen(1000, t))
 }
 
 fn fault(camera: Camera) -> Option<CameraFault> {
-    match camera.lens() {
-        Ok(_) => None,
-        Err(fault) => Some(fault),
-    }
+    Lens::try_from(camera).err()
 }
 
 fn perspective(eye_x: f32, eye_y: f32, focal: f32) -> Camera {

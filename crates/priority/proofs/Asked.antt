@@ -5,7 +5,7 @@ use Rattle.bintree.specs.declared.triangle.Triangle.{Triangle}
 use Rattle.bintree.specs.Orders.{is_triangle}
 use Rattle.bintree.specs.Triangles.{corners, level}
 use Rattle.bintree.specs.Samples.{box}
-use Rattle.bintree.specs.Views.{order_of, number_of}
+use Rattle.bintree.specs.Views.{order_of, number_of, Is}
 use Rattle.bintree.proofs.Numbers.{level_is, depth_of_triangle}
 use Rattle.terrain.specs.Grounds.{Ground, bound_of}
 use Rattle.plan.specs.declared.spot.Line.{Line}
@@ -25,8 +25,8 @@ pub record Found (t : Triangle) (n i : ℕ) : Type 0 where
   pub number : number_of t ≡ i
 
 -- what asking a policy's order for the triangle tells
-pub found : (t : Triangle) (m n i : ℕ) → m ≡ n → (is_triangle m i ≡ true) × (order_of t ≡ m) × (number_of t ≡ i) → Found t n i
-found t m n i e h = record { triangle = subst (λ (k : ℕ). is_triangle k i ≡ true) e h.0; order = h.1 ∙ e; number = h.2 }
+pub found : (t : Triangle) (m n i : ℕ) → m ≡ n → (is_triangle m i ≡ true) × Is t m i → Found t n i
+found t m n i e h = record { triangle = subst (λ (k : ℕ). is_triangle k i ≡ true) e h.0; order = h.1.0 ∙ e; number = h.1.1 }
 
 pub not_found : (m n i : ℕ) → m ≡ n → is_triangle m i ≡ false → is_triangle n i ≡ false
 not_found m n i e h = subst (λ (k : ℕ). is_triangle k i ≡ false) e h

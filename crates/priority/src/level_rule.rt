@@ -19,8 +19,9 @@ impl LevelRule {
     pub fn new(order: u8) -> Result<LevelRule, OrderFault>
         ensures { told (λ p. order_value p.order) order_refusal result ≡ ordering order }
     {
-        let order = Order::new(order)?;
-        Ok(LevelRule { order })
+        Ok(LevelRule {
+            order: Order::new(order)?,
+        })
     }
 }
 

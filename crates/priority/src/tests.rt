@@ -4,8 +4,10 @@ use crate::level_rule::LevelRule;
 use crate::sight_line::SightLine;
 use crate::stored::Stored;
 use crate::window::Window;
+use bintree::fault::OrderFault;
 use bintree::point::Point;
 use optics::camera::Camera;
+use optics::lens::Lens;
 use plan::spot::{Line, Rectangle, Spot};
 use policy::policy::Policy;
 use std::alloc::Global;
@@ -24,10 +26,8 @@ fn small_map(heap: Global) -> Result<Map, Fail> {
 
 // The numbers of 2 to 9, and 0 for what is no triangle.
 fn numbers_are<P: Policy>(rt: &impl Abort, policy: &P, expected: [u32; 8]) {
-    let mut triangle = 2;
-    for number in expected {
+    for (triangle, number) in (2..10).zip(expected) {
         assert_eq!(rt; policy.priority(triangle), number);
-        triangle = triangle.wrapping_add(1);
     }
     for none in [0, 1, 16, 4294967295] {
         assert_eq!(rt; policy.priority(none), 0);
@@ -35,26 +35,21 @@ fn numbers_are<P: Policy>(rt: &impl Abort, policy: &P, expected: [u32; 8]) {
     assert_eq!(rt; policy.order().value(), 1);
 }
 
+fn spot((x, y): (u8, u8)) -> Spot {
+    Spot { x, y }
+}
+
 fn line(from: (u8, u8), to: (u8, u8)) -> Line {
     Line {
-        from: Spot {
-            x: from.0,
-            y: from.1,
-        },
-        to: Spot { x: to.0, y: to.1 },
+        from: spot(from),
+        to: spot(to),
     }
 }
 
 fn rectangle(corner: (u8, u8), opposite: (u8, u8)) -> Rectangle {
     Rectangle {
-        corner: Spot {
-            x: corner.0,
-            y: corner.1,
-        },
-        opposite: Spot {
-            x: opposite.0,
-            y: opposite.1,
-        },
+        corner: spot(corner),
+        opposite: spot(opposite),
     }
 }
 
@@ -69,10 +64,7 @@ fn stored(rt: HostRuntime) -> Result<(), Fail> {
 fn level(rt: HostRuntime) -> Result<(), Fail> {
     numbers_are(&rt, &LevelRule::new(1)?, [2, 2, 1, 1, 1, 1, 0, 0]);
     for order in [0, 7] {
-        match LevelRule::new(order) {
-            Ok(_) => return Err(Fail::new("no order")),
-            Err(fault) => assert_eq!(rt; fault.order, order),
-        }
+        assert_eq!(rt; LevelRule::new(order).err(), Some(OrderFault { order }));
     }
     Ok(())
 }
@@ -87,7 +79,7 @@ fn perspective(rt: HostRuntime) -> Result<(), Fail> {
     };
     let rule = CameraRule {
         map: &map,
-        lens: camera.lens()?,
+        lens: Lens::try_from(camera)?,
     };
     numbers_are(&rt, &rule, [52, 40, 12, 0, 0, 0, 0, 0]);
     Ok(())
@@ -99,7 +91,7 @@ fn overhead(rt: HostRuntime) -> Result<(), Fail> {
     let camera = Camera::Overhead { focal: 0.5 };
     let rule = CameraRule {
         map: &map,
-        lens: camera.lens()?,
+        lens: Lens::try_from(camera)?,
     };
     numbers_are(&rt, &rule, [13, 10, 3, 0, 0, 0, 0, 0]);
     Ok(())

@@ -3,7 +3,7 @@ use Rattle.priority.proofs.Asked.{found, level_below, level_none, level_some}
 use Rattle.priority.proofs.level_rule.LevelRulePolicy.priority.Goals as goal
 
 pub overflow_sub-result : goal.overflow_sub-result
-overflow_sub-result c = omega (arith, level_below c.in-Some.t, c.level.ensures.value, c.in-Some.ensures.1, c.value.ensures, c.from.ensures)
+overflow_sub-result c = omega (arith, level_below c.in-Some.t, c.level.ensures.value, c.in-Some.ensures.1.0, c.value.ensures, c.from.ensures)
 
 pub returns-in-Some : goal.returns-in-Some
 returns-in-Some c =
