@@ -1,6 +1,7 @@
 pub mod Orders
 pub mod Views
 pub mod Refusals
+pub mod Texts
 pub mod Triangles
 pub mod Samples
 pub mod Neighbours

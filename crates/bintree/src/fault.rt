@@ -1,4 +1,5 @@
-// Why a number was refused.
+ghost use Rattle.std.specs.Prelude.{Some};
+
 use std::error::Error;
 use std::fmt;
 
@@ -9,6 +10,10 @@ pub struct OrderFault {
 }
 
 impl fmt::Display for OrderFault {
+    ghost use Rattle.bintree.specs.Texts.{order_text};
+
+    ghost output = { λ f. Some (order_text f) };
+
     fn fmt<W: fmt::Write>(&self, f: &mut fmt::Formatter<W>) -> fmt::Result {
         write!(f, "refused 7 order {}", self.order)
     }

@@ -31,11 +31,15 @@ focal_sixteenths nan = None
 focal_sixteenths (inf s) = None
 focal_sixteenths (fin s m e) = cond (not s && (nat_le (down e) (16 * (m * up e)) && nat_lt (m * up e) (4096 * down e))) (Some (sixteenths (m * up e) (down e))) None
 
--- Refusal 10: a field is not a number, infinite or out of range; which one comes with it: 1 eye x, 2 eye y, 3 focal.
+-- The fields by number: 1 eye x, 2 eye y, 3 focal.
+abbrev pub field_number : CameraFault → ℕ
+field_number EyeX = 1
+field_number EyeY = 2
+field_number Focal = 3
+
+-- Refusal 10: a field is not a number, infinite or out of range; which one comes with it.
 abbrev pub camera_refusal : CameraFault → Refusal
-camera_refusal EyeX = refusal 10 (1 ∷ [])
-camera_refusal EyeY = refusal 10 (2 ∷ [])
-camera_refusal Focal = refusal 10 (3 ∷ [])
+camera_refusal f = refusal 10 (field_number f ∷ [])
 
 -- A camera in sixteenths, with an eye or with none.
 abbrev pub lens : Option Eye → ℕ → Lens

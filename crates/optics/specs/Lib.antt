@@ -1,2 +1,3 @@
 pub mod Cameras
 pub mod Lenses
+pub mod Texts

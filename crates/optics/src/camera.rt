@@ -1,3 +1,5 @@
+ghost use Rattle.std.specs.Prelude.{Some};
+
 use std::error::Error;
 use std::fmt;
 
@@ -17,6 +19,10 @@ pub enum CameraFault {
 }
 
 impl fmt::Display for CameraFault {
+    ghost use Rattle.optics.specs.Texts.{camera_text};
+
+    ghost output = { λ f. Some (camera_text f) };
+
     fn fmt<W: fmt::Write>(&self, f: &mut fmt::Formatter<W>) -> fmt::Result {
         let field = match self {
             CameraFault::EyeX => 1,
