@@ -1,3 +1,5 @@
+ghost use Rattle.std.specs.Prelude.{◌≡◌, vec_len};
+
 mod fill;
 pub(crate) mod places;
 mod settle;
@@ -17,4 +19,7 @@ pub(crate) struct Table {
     pub(crate) heights: Vec<u16>,
     pub(crate) bounds: Vec<u32>,
     pub(crate) scratch: Vec<u32>,
+    ghost tall: { vec_len heights ≡ 4225 },
+    ghost wide: { vec_len bounds ≡ 16384 },
+    ghost roomy: { vec_len scratch ≡ 16384 },
 }

@@ -16,9 +16,6 @@ use bintree::point::Point;
 impl Map {
     // The map of the heights in a table, with the measured bounds.
     pub(crate) fn of_heights(order: Order, mut table: Table) -> Map
-        requires tall { vec_len table.heights ≡ 4225 }
-        requires wide { vec_len table.bounds ≡ 16384 }
-        requires roomy { vec_len table.scratch ≡ 16384 }
         ensures value { map_view result ≡ measuring (sketch_view (order_value order) table) }
         ensures laws { MeasureLaws (sketch_view (order_value order) table) }
     {

@@ -22,8 +22,7 @@ use std::mem;
 impl Table {
     // All the memory that a draft, and the map that it becomes, will ever need, with all heights 0.
     pub(crate) fn new(heap: Global) -> Result<Table, AllocError>
-        ensures { IfOk result (λ t. (t.heights.items ≡ replicate 4225 0) × (vec_len t.heights ≡ 4225)
-            × (vec_len t.bounds ≡ 16384) × (vec_len t.scratch ≡ 16384)) }
+        ensures { IfOk result (λ t. t.heights.items ≡ replicate 4225 0) }
     {
         let heights = vec![in heap; 0; SAMPLES]?;
         let bounds = vec![in heap; 0; TRIANGLES]?;
@@ -37,12 +36,6 @@ impl Table {
 
     // Puts the measured bounds in the place of whatever bounds there are. None of them passes the limit, so there is nothing to refuse.
     pub(crate) fn measure(&mut self, order: Order)
-        requires tall { vec_len self.old.heights ≡ 4225 }
-        requires wide { vec_len self.old.bounds ≡ 16384 }
-        requires roomy { vec_len self.old.scratch ≡ 16384 }
-        ensures tall { vec_len self.new.heights ≡ 4225 }
-        ensures wide { vec_len self.new.bounds ≡ 16384 }
-        ensures roomy { vec_len self.new.scratch ≡ 16384 }
         ensures heights { self.new.heights.items ≡ self.old.heights.items }
         ensures bounds { bounds_in (order_value order) self.new.bounds.items
             ≡ measured (order_value order) (heights_in (order_value order) self.old.heights.items) }
@@ -61,7 +54,6 @@ impl Table {
 
     // The bound of a triangle; none where the number is no triangle.
     pub(crate) fn bound(&self, order: Order, number: u32) -> Option<u32>
-        requires { vec_len self.now.bounds ≡ 16384 }
         ensures { result ≡ bound_of (table_view (order_value order) self.now) number }
     {
         match order.triangle(number) {
@@ -72,13 +64,7 @@ impl Table {
 
     // Carves a sample, or refuses and leaves heights and bounds as they are.
     pub(crate) fn carve(&mut self, order: Order, p: Point, z: u16) -> Result<(), CarveFault>
-        requires tall { vec_len self.old.heights ≡ 4225 }
-        requires wide { vec_len self.old.bounds ≡ 16384 }
-        requires roomy { vec_len self.old.scratch ≡ 16384 }
         requires limited { WithinLimit (order_value order) (bounds_in (order_value order) self.old.bounds.items) }
-        ensures tall { vec_len self.new.heights ≡ 4225 }
-        ensures wide { vec_len self.new.bounds ≡ 16384 }
-        ensures roomy { vec_len self.new.scratch ≡ 16384 }
         ensures answer { told (λ _. table_view (order_value order) self.new) carve_refusal result ≡ carving p z (table_view (order_value order) self.old) }
         ensures after { table_view (order_value order) self.new ≡ left_by (carving p z (table_view (order_value order) self.old)) (table_view (order_value order) self.old) }
     {

@@ -1,5 +1,5 @@
 -- Done, the table holds the carved map; refused, the one height that was put is put back.
-use Rattle.std.proofs.Common.{◌≡◌, ℕ, List, length, get_or, set, vec_items, vec_len, sym, ap, ◌∙◌, arith}
+use Rattle.std.proofs.Common.{◌≡◌, ℕ, List, length, get_or, set, vec_items, sym, ap, ◌∙◌, arith}
 use Rattle.std.proofs.VecSteps.Gaps.{with_items_is}
 use Rattle.std.proofs.lemmas.List.{set-set, set-get_or}
 use Rattle.bintree.specs.Refusals.{Reply}
@@ -18,13 +18,10 @@ returns-then-passing-gt0 c =
     let n = c.args.order.n in
     let t = c.args.self.now in
     let k = c.in_ok-at.ensures in
-    let long : length (vec_items t.heights) ≡ 4225 = sym t.heights.ok.0 ∙ c.requires.tall in
+    let long : length (vec_items t.heights) ≡ 4225 = sym t.heights.ok.0 ∙ t.tall in
     let told = refuses n (vec_items t.heights) (vec_items t.bounds) c.args.p c.args.z c.in_ok-at.at c.args.order.high long k.0 k.1 _
     (rw (c.as_slice.ensures.value, c.as_slice-2.ensures.value) at c.settle_all-passing.ensures.passing) (λ e. omega arith) in
     record {
-      tall = c.requires.tall;
-      wide = c.requires.wide;
-      roomy = c.requires.roomy;
       answer = told;
       after = ap {A = List ℕ} {B = Ground} (λ l. record { order = n; heights = heights_in n l; bounds = bounds_in n (vec_items t.bounds) }) (put_back _ _ _ _ c.index-before.ensures)
           ∙ ap {A = Reply Ground} {B = Ground} (λ r. left_by r (table_view n t)) told;
@@ -35,7 +32,7 @@ returns c =
     let n = c.args.order.n in
     let t = c.args.self.now in
     let k = c.in_ok-at.ensures in
-    let long : length (vec_items t.heights) ≡ 4225 = sym t.heights.ok.0 ∙ c.requires.tall in
+    let long : length (vec_items t.heights) ≡ 4225 = sym t.heights.ok.0 ∙ t.tall in
     let new = c.settle_all-passing.new.scratch in
     let swapped : vec_items c.swap.new.x ≡ new = ap vec_items c.swap.ensures.x_after ∙ with_items_is t.scratch new (omega arith) in
     let told = carves n (vec_items t.heights) (vec_items t.bounds) c.args.p c.args.z c.in_ok-at.at c.args.order.high long k.0 k.1
@@ -43,9 +40,6 @@ returns c =
     (ap (bounds_in n) swapped ∙ (rw (c.as_slice.ensures.value, c.as_slice-2.ensures.value) at c.settle_all-passing.ensures.bounds))
     (rw (c.as_slice.ensures.value, c.as_slice-2.ensures.value) at c.settle_all-passing.ensures.passing) (omega arith) in
     record {
-      tall = c.requires.tall;
-      wide = ap vec_len c.swap.ensures.x_after ∙ c.requires.roomy;
-      roomy = ap vec_len c.swap.ensures.y_after ∙ c.requires.wide;
       answer = told;
       after = ap {A = Reply Ground} {B = Ground} (λ r. left_by r (table_view n t)) told;
     }
