@@ -4,6 +4,7 @@ mod fill;
 pub(crate) mod places;
 mod settle;
 mod steps;
+mod surface;
 
 // How many samples a row of the largest square has, how many the whole square, and the number past its last triangle.
 const ROW: usize = 65;

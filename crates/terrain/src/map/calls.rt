@@ -34,10 +34,9 @@ impl Map {
     pub fn height(&self, p: Point) -> Option<u16>
         ensures { result ≡ height_of (map_view self.now) p }
     {
-        match place_of(self.order, p) {
-            Ok(at) => Some(self.table.heights[at]),
-            Err(_) => None,
-        }
+        place_of(self.order, p)
+            .ok()
+            .map(|at| self.table.heights[at])
     }
 
     // The bound of a triangle; none where the number is no triangle. No sample of the triangle stands further from the plane of its corners

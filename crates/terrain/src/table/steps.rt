@@ -1,18 +1,19 @@
 // What a draft or a map has its table do.
-ghost use Rattle.std.specs.Prelude.{◌≡◌, replicate, IfOk, vec_len};
+ghost use Rattle.std.specs.Prelude.{◌≡◌, ℕ, ◌<◌, ◌≤◌, slice_index, replicate, IfOk, MatchOption};
 ghost use Rattle.bintree.specs.Refusals.{told};
 ghost use Rattle.bintree.specs.Views.{order_value};
 ghost use Rattle.terrain.specs.Bounds.{WithinLimit, measured};
+ghost use Rattle.terrain.specs.Carving.{highest_passing};
 ghost use Rattle.terrain.specs.Grounds.{carving, bound_of, left_by};
 ghost use Rattle.terrain.specs.Laws.{MeasureLaws};
 ghost use Rattle.terrain.specs.Refusals.{carve_refusal};
 ghost use Rattle.terrain.specs.Tables.{heights_in, bounds_in};
 ghost use Rattle.terrain.specs.Views.{table_view, sketch_view};
+ghost use Rattle.terrain.specs.Working.{new_bounds};
 
 use crate::fault::CarveFault;
-use crate::scope::Scope;
 use crate::table::places::place_of;
-use crate::table::settle::settle_all;
+use crate::table::surface::Surface;
 use crate::table::{SAMPLES, TRIANGLES, Table};
 use bintree::order::Order;
 use bintree::point::Point;
@@ -34,6 +35,22 @@ impl Table {
         })
     }
 
+    // Works all bounds that are due out anew, into the scratch room. Answers the highest-numbered triangle whose new bound passes the limit.
+    fn settle(&mut self, order: Order, around: Option<Point>) -> Option<u32>
+        requires limited { WithinLimit (order_value order) (bounds_in (order_value order) self.old.bounds.items) }
+        ensures small { (k : ℕ) → slice_index self.old.heights.items k ≤ 65535 }
+        ensures heights { self.new.heights ≡ self.old.heights }
+        ensures bounds { self.new.bounds ≡ self.old.bounds }
+        ensures new { bounds_in (order_value order) self.new.scratch.items
+            ≡ new_bounds around (order_value order) self.old.heights.items self.old.bounds.items }
+        ensures passing { MatchOption result
+            (highest_passing (order_value order) (new_bounds around (order_value order) self.old.heights.items self.old.bounds.items) ≡ 0)
+            (λ i. (0 < i) × (i ≡ highest_passing (order_value order) (new_bounds around (order_value order) self.old.heights.items self.old.bounds.items))) }
+    {
+        let surface = Surface::new(self.heights.as_slice(), self.bounds.as_slice());
+        surface.settle_all(self.scratch.as_mut_slice(), order, around)
+    }
+
     // Puts the measured bounds in the place of whatever bounds there are. None of them passes the limit, so there is nothing to refuse.
     pub(crate) fn measure(&mut self, order: Order)
         ensures heights { self.new.heights.items ≡ self.old.heights.items }
@@ -42,13 +59,7 @@ impl Table {
         ensures laws { MeasureLaws (sketch_view (order_value order) self.old) }
     {
         self.bounds.fill(0);
-        let _ = settle_all(
-            self.heights.as_slice(),
-            self.bounds.as_slice(),
-            self.scratch.as_mut_slice(),
-            order,
-            Scope::Everywhere,
-        );
+        let _ = self.settle(order, None);
         mem::swap(&mut self.bounds, &mut self.scratch);
     }
 
@@ -56,10 +67,7 @@ impl Table {
     pub(crate) fn bound(&self, order: Order, number: u32) -> Option<u32>
         ensures { result ≡ bound_of (table_view (order_value order) self.now) number }
     {
-        match order.triangle(number) {
-            Some(_) => Some(self.bounds[number as usize]),
-            None => None,
-        }
+        order.triangle(number).map(|_| self.bounds[number as usize])
     }
 
     // Carves a sample, or refuses and leaves heights and bounds as they are.
@@ -69,18 +77,10 @@ impl Table {
         ensures after { table_view (order_value order) self.new ≡ left_by (carving p z (table_view (order_value order) self.old)) (table_view (order_value order) self.old) }
     {
         let at = place_of(order, p)?;
-        let before = self.heights[at];
-        self.heights[at] = z;
-        let passing = settle_all(
-            self.heights.as_slice(),
-            self.bounds.as_slice(),
-            self.scratch.as_mut_slice(),
-            order,
-            Scope::Around(p),
-        );
-        if passing > 0 {
+        let before = mem::replace(&mut self.heights[at], z);
+        if let Some(triangle) = self.settle(order, Some(p)) {
             self.heights[at] = before;
-            return Err(CarveFault::Passing(passing));
+            return Err(CarveFault::Passing(triangle));
         }
         mem::swap(&mut self.bounds, &mut self.scratch);
         Ok(())
