@@ -1,5 +1,5 @@
 -- Filling from a source: the map that it describes, the test of its bounds, and why a map is given exactly if they cover.
-use Rattle.std.proofs.Common.{◌≡◌, ℕ, ◌+◌, ◌*◌, ◌<◌, ◌≤◌, max, Bool, true, false, cond, ◌&&◌, ◌||◌, eqb, ltb, leb, ◌⊎◌, List, [], ◌∷◌, length, get_or, set, sym, ap, ◌∙◌, subst, inl, inr, ⊎_elim, arith}
+use Rattle.std.proofs.Common.{◌≡◌, ℕ, ◌+◌, ◌*◌, ◌<◌, ◌≤◌, max, Bool, true, false, cond, ◌&&◌, ◌||◌, eqb, ltb, leb, ◌⊎◌, List, [], ◌∷◌, length, get_or, set, sym, refl, ap, ◌∙◌, subst, inl, inr, ⊎_elim, arith}
 use mathlib.Core.Path.{fun_ext}
 use Rattle.std.proofs.lemmas.List.{get_or-set_same, get_or-set_other}
 use Rattle.std.proofs.lemmas.Bool.{cases_Bool, cases_lt, cases_eq, both_ways, and_parts, and_from, and_left, or_from, or_parts, ltb-true, ltb-false, leb-true, le-leb, lt-leb, lt-ltb, le-ltb, cond-true, cond-false, eq-eqb, ne_eqb, eqb-true}
@@ -25,6 +25,11 @@ use Rattle.terrain.proofs.Lowest.{none_lowest, is_lowest, none_below}
 sampled_at : (n : ℕ) (z : Heights) (p : Point) → is_sample n p ≡ true → sampled n z p ≡ z p
 unfolding sampled
 sampled_at n z p t = cond-true (is_sample n p) _ _ t
+
+-- the heights of a list are what it says of samples
+pub list_sampled : (n : ℕ) (zs : List ℕ) → sampled n (λ p. get_or zs (place p) 0) ≡ heights_in n zs
+unfolding sampled heights_in
+list_sampled n zs = refl
 
 splittable : (n i : ℕ) → 2 ≤ i → i < first_finest n → is_splittable n i ≡ true
 splittable n i p q = and_from _ _ (le-leb 2 i p) (lt-ltb i (first_finest n) q)

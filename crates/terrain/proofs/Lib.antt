@@ -9,6 +9,6 @@ pub mod Due
 pub mod Settlings
 pub mod Replies
 pub mod Maps
-pub mod Options
 pub mod Lowest
+pub mod Options
 pub mod Fillings

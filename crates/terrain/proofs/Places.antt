@@ -1,18 +1,15 @@
 -- Lists as heights and as bounds: what a read and a write at a place mean.
-use Rattle.std.proofs.Common.{◌≡◌, ℕ, ◌+◌, ◌*◌, ◌^◌, ◌<◌, ◌≤◌, true, false, cond, eqb, leb, ◌≢◌, ◌⊎◌, List, length, get_or, set, replicate, sym, refl, ap, ◌∙◌, subst, inl, inr, ⊎_elim, arith}
+use Rattle.std.proofs.Common.{◌≡◌, ℕ, ◌^◌, ◌<◌, ◌≤◌, true, false, cond, eqb, leb, ◌≢◌, ◌⊎◌, List, length, get_or, set, replicate, sym, refl, ap, ◌∙◌, subst, inl, inr, ⊎_elim, arith}
 use mathlib.Core.Path.{fun_ext}
 use Rattle.std.proofs.lemmas.List.{get_or-set_same, get_or-set_other, get_or-replicate, get_or_past, length-replicate}
 use Rattle.std.proofs.lemmas.Bool.{cases_Bool, cases_lt, and_parts, and_from, leb-true, le-leb, eqb-true, eq-eqb, cond-true, cond-false, cond_both, both_ways}
 use Rattle.bintree.specs.declared.point.Point.{Point}
-use Rattle.bintree.specs.declared.point.Corners.{Corners}
 use Rattle.bintree.specs.Orders.{end, is_triangle}
-use Rattle.bintree.specs.Triangles.{corners, centre, same_point}
+use Rattle.bintree.specs.Triangles.{same_point}
 use Rattle.bintree.proofs.Sizes.{side_bound}
 use Rattle.bintree.proofs.Shape.{point_eq}
 use Rattle.terrain.specs.Heights.{Heights, is_sample, flat, put_height}
-use Rattle.terrain.specs.Bounds.{apart, offset}
 use Rattle.terrain.specs.Tables.{place, heights_in, bounds_in}
-use Rattle.terrain.proofs.Holding.{corners_in_square}
 use Rattle.terrain.proofs.Highest.{is_tri}
 use Rattle.terrain.proofs.Carvings.{put_other}
 
@@ -40,27 +37,6 @@ heights_small n zs m f p = ⊎_elim
     (λ t. omega (arith, height_at n zs p t, f (place p)))
     (λ t. omega (arith, height_none n zs p t))
     (cases_Bool (is_sample n p))
-
--- the offset of a triangle, from the list: its base's ends and its centre are samples
-offset_at : (n i : ℕ) (zs : List ℕ)
-    → offset n (heights_in n zs) i ≡ apart (2 * get_or zs (place (centre (corners n i))) 0) (get_or zs (place (corners n i).left) 0 + get_or zs (place (corners n i).right) 0)
-unfolding offset
-offset_at n i zs =
-    let w = corners_in_square n i in
-    let c = height_at n zs (centre (corners n i)) (in_sample n (centre (corners n i)) (omega arith) (omega arith)) in
-    let l = height_at n zs (corners n i).left (in_sample n (corners n i).left w.lx w.ly) in
-    let r = height_at n zs (corners n i).right (in_sample n (corners n i).right w.rx w.ry) in
-    rw (c, l, r)
-
--- the same from what was read at a point c and at the corners t
-pub offset_is : (n i : ℕ) (zs : List ℕ) (t : Corners) (c : Point) (hc hl hr : ℕ) → t ≡ corners n i → c ≡ centre (corners n i)
-    → hc ≡ get_or zs (place c) 0 → hl ≡ get_or zs (place t.left) 0 → hr ≡ get_or zs (place t.right) 0 → apart (2 * hc) (hl + hr) ≡ offset n (heights_in n zs) i
-offset_is n i zs t c hc hl hr et ec ehc ehl ehr =
-    let fc = ehc ∙ ap (λ (q : Point). get_or zs (place q) 0) ec in
-    let fl = ehl ∙ ap (λ (u : Corners). get_or zs (place u.left) 0) et in
-    let fr = ehr ∙ ap (λ (u : Corners). get_or zs (place u.right) 0) et in
-    let e = offset_at n i zs in
-    omega arith
 
 -- all heights are 0
 zero_in : (m k : ℕ) → get_or {A = ℕ} (replicate m 0) k 0 ≡ 0

@@ -1,6 +1,6 @@
 -- What each call answers, from what its steps left in the lists: one equation with the call's definition. What a call leaves follows from what it
 -- answers, as `left_by`.
-use Rattle.std.proofs.Common.{◌≡◌, ℕ, ◌≤◌, Bool, true, false, cond, eqb, List, [], ◌∷◌, length, get_or, set, replicate, Some, Ok, vec_items, Option, Result, sym, refl, ap, ◌∙◌, subst, arith}
+use Rattle.std.proofs.Common.{◌≡◌, ℕ, ◌<◌, ◌≤◌, Bool, true, false, cond, eqb, List, [], ◌∷◌, length, get_or, set, replicate, Some, Ok, vec_items, Option, Result, sym, refl, ap, ◌∙◌, subst, arith}
 use Rattle.std.proofs.lemmas.Bool.{cond-true, cond-false, eq-eqb, ne_eqb}
 use Rattle.bintree.specs.declared.fault.OrderFault.{OrderFault}
 use Rattle.bintree.specs.declared.order.Order.{Order}
@@ -14,7 +14,6 @@ use Rattle.terrain.specs.Carving.{carved_bounds, highest_passing}
 use Rattle.terrain.specs.Grounds.{Sketch, Ground, blank, resetting, setting, measuring, carved, carving_to, carving, bound_of, height_of}
 use Rattle.terrain.specs.declared.table.Table.{Table}
 use Rattle.terrain.specs.Views.{table_view, sketch_view}
-use Rattle.terrain.specs.declared.scope.Scope.TheVariants.{Around}
 use Rattle.terrain.specs.Tables.{place, heights_in, bounds_in}
 use Rattle.terrain.specs.Working.{new_bounds}
 use Rattle.terrain.proofs.Highest.{triangle_low, triangle_high}
@@ -63,7 +62,7 @@ module _ (n : ℕ) (hs bs : List ℕ) (p : Point) (h at : ℕ) (six : n ≤ 6) (
   before = record { order = n; heights = heights_in n hs; bounds = bounds_in n bs }
 
   abbrev worked : Bounds
-  worked = new_bounds (Around p) n (set hs at h) bs
+  worked = new_bounds (Some p) n (set hs at h) bs
 
   heights_put : heights_in n (set hs at h) ≡ put_height p h (heights_in n hs)
   heights_put = heights_set n hs p h at six s long e
@@ -71,18 +70,19 @@ module _ (n : ℕ) (hs bs : List ℕ) (p : Point) (h at : ℕ) (six : n ≤ 6) (
   bounds_carved : worked ≡ (carved p h before).bounds
   bounds_carved = new_carved n p (set hs at h) bs ∙ ap (λ (z : Heights). carved_bounds n z p (bounds_in n bs)) heights_put
 
-  answers : (r : ℕ) → r ≡ highest_passing n worked → carving_to (carved p h before) r ≡ carving p h before
-  answers r q = ap (carving_to (carved p h before)) (q ∙ ap (highest_passing n) bounds_carved) ∙ sym (cond-true (is_sample n p) _ _ s)
+  answers : carving_to (carved p h before) (highest_passing n worked) ≡ carving p h before
+  answers = ap (λ (b : Bounds). carving_to (carved p h before) (highest_passing n b)) bounds_carved ∙ sym (cond-true (is_sample n p) _ _ s)
 
-  pub carves : (new : List ℕ) (r : ℕ) → bounds_in n new ≡ worked → r ≡ highest_passing n worked → r ≡ 0
-      → given (record { order = n; heights = heights_in n (set hs at h); bounds = bounds_in n new }) ≡ carving p h before
-  carves new r b q z =
-      let f : record { order = n; heights = heights_in n (set hs at h); bounds = bounds_in n new } ≡ carved p h before
-      = λ i. record { order = n; heights = heights_put i; bounds = (b ∙ bounds_carved) i } in
-      ap {A = Ground} {B = Reply Ground} given f ∙ (sym (cond-true (eqb r 0) _ _ (eq-eqb r 0 z)) ∙ answers r q)
+  pub carves : (zs new : List ℕ) → zs ≡ set hs at h → bounds_in n new ≡ worked → highest_passing n worked ≡ 0
+      → given (record { order = n; heights = heights_in n zs; bounds = bounds_in n new }) ≡ carving p h before
+  carves zs new q b z =
+      let f : record { order = n; heights = heights_in n zs; bounds = bounds_in n new } ≡ carved p h before
+      = λ i. record { order = n; heights = (ap (heights_in n) q ∙ heights_put) i; bounds = (b ∙ bounds_carved) i } in
+      ap {A = Ground} {B = Reply Ground} given f ∙ (sym (cond-true (eqb (highest_passing n worked) 0) _ _ (eq-eqb _ 0 z)) ∙ answers)
 
-  pub refuses : (r : ℕ) → r ≡ highest_passing n worked → (r ≡ 0 → ⊥) → refused (refusal 9 (r ∷ [])) ≡ carving p h before
-  refuses r q z = sym (cond-false (eqb r 0) (given (carved p h before)) (refused (refusal 9 (r ∷ []))) (ne_eqb r 0 z)) ∙ answers r q
+  pub refuses : (r : ℕ) → 0 < r → r ≡ highest_passing n worked → refused (refusal 9 (r ∷ [])) ≡ carving p h before
+  refuses r l q = sym (cond-false (eqb r 0) (given (carved p h before)) (refused (refusal 9 (r ∷ []))) (ne_eqb r 0 (λ z. omega arith)))
+      ∙ (ap (carving_to (carved p h before)) q ∙ answers)
 
 -- measuring, from the table that it leaves
 pub measures : (n : ℕ) (t u : Table) → vec_items u.heights ≡ vec_items t.heights → bounds_in n (vec_items u.bounds) ≡ measured n (heights_in n (vec_items t.heights))

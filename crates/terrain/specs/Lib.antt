@@ -4,6 +4,7 @@ pub mod Carving
 pub mod Grounds
 pub mod Laws
 pub mod Refusals
+pub mod Texts
 pub mod Tables
 pub mod Working
 pub mod Views

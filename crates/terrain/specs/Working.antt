@@ -1,35 +1,34 @@
 -- What the inner steps of measuring and carving promise each other.
-use Rattle.std.specs.Prelude.{◌≡◌, ℕ, ◌*◌, ◌<◌, ◌≤◌, max, Bool, cond, ◌⊎◌, List, nat_lt}
+use Rattle.std.specs.Prelude.{◌≡◌, ℕ, ◌*◌, ◌<◌, ◌≤◌, Bool, ◌⊎◌, List, Some, None, Option, unwrap_or, IfSome}
+use Rattle.bintree.specs.declared.point.Point.{Point}
 use Rattle.bintree.specs.Orders.{is_splittable}
 use Rattle.bintree.specs.Meshes.{Within}
-use Rattle.terrain.specs.declared.scope.Scope.{Scope}
-use Rattle.terrain.specs.declared.scope.Scope.TheVariants.{Everywhere, Around}
 use Rattle.terrain.specs.Bounds.{Bounds, offset, limit, worked_out}
 use Rattle.terrain.specs.Carving.{reached}
 use Rattle.terrain.specs.Tables.{heights_in, bounds_in}
 
--- The triangles of order n that are due to be worked out anew.
-abbrev pub due : Scope → ℕ → ℕ → Bool
-due Everywhere n = is_splittable n
-due (Around p) n = reached n p
+-- The triangles of order n whose bounds are due to be worked out anew: those that hold a sample, or all splittable ones where none is given.
+abbrev pub due : Option Point → ℕ → ℕ → Bool
+due None n = is_splittable n
+due (Some p) n = reached n p
 
 -- The bounds worked out anew, from the lists of heights and of bounds.
-unfoldable pub new_bounds : Scope → ℕ → List ℕ → List ℕ → Bounds
-new_bounds scope n zs bs = worked_out (due scope n) (offset n (heights_in n zs)) (bounds_in n bs) (2 * n)
+unfoldable pub new_bounds : Option Point → ℕ → List ℕ → List ℕ → Bounds
+new_bounds around n zs bs = worked_out (due around n) (offset n (heights_in n zs)) (bounds_in n bs) (2 * n)
 
 -- Halfway through, each bound of the table is the old one or the new one.
 abbrev pub Mixed : Bounds → Bounds → Bounds → Type 0
 Mixed old new now_there = (j : ℕ) → (now_there j ≡ old j) ⊎ (now_there j ≡ new j)
 
+-- A triangle's number, 0 for none.
+abbrev pub or_zero : Option ℕ → ℕ
+or_zero o = unwrap_or o 0
+
 -- Triangle i is settled: it and all that descend from it have their new bounds, and no other bound has changed but to its new one. Besides,
--- `bound` is the new bound of i, and `passing` the highest-numbered of those triangles whose new bound passes the limit, 0 for none.
-pub record Settles (new before after : Bounds) (i bound passing : ℕ) : Type 0 where
+-- `bound` is the new bound of i, and `passing` the highest-numbered of those triangles whose new bound passes the limit.
+pub record Settles (new before after : Bounds) (i bound : ℕ) (passing : Option ℕ) : Type 0 where
   pub value : bound ≡ new i
   pub kept : (j : ℕ) → (after j ≡ before j) ⊎ (after j ≡ new j)
   pub done : (j : ℕ) → Within j i → after j ≡ new j
-  pub last : (j : ℕ) → Within j i → limit < new j → j ≤ passing
-  pub real : (passing ≡ 0) ⊎ (limit < new passing)
-
--- The highest-numbered of triangle i, whose bound is `bound`, and two triangles that pass, 0 for none.
-abbrev pub last_of : ℕ → ℕ → ℕ → ℕ → ℕ
-last_of i bound low high = cond (nat_lt limit bound) (max (max low high) i) (max low high)
+  pub last : (j : ℕ) → Within j i → limit < new j → j ≤ or_zero passing
+  pub real : IfSome passing (λ k. limit < new k)

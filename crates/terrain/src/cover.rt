@@ -19,8 +19,8 @@ pub(crate) fn bound_of<S: Relief>(source: &S, t: Triangle) -> u32
     }
 }
 
-// The offset of a splittable triangle, in half height units.
-fn offset<S: Relief>(source: &S, t: Triangle) -> u32
+// The offset of a splittable triangle: how far the sample at its centre stands from its base, in half height units.
+pub(crate) fn offset<S: Relief>(source: &S, t: Triangle) -> u32
     requires { number_of t < first_finest (order_of t) }
     ensures value { result ≡ triangle_offset (order_of t) (sampled (order_of t) (S.heights source.now)) (number_of t) }
     ensures bound { result ≤ 131070 }

@@ -1,5 +1,3 @@
-ghost use Rattle.std.specs.Prelude.{◌≡◌, vec_len};
-
 use crate::table::Table;
 use bintree::order::Order;
 
@@ -10,7 +8,4 @@ pub mod calls;
 pub struct Draft {
     order: Order,
     table: Table,
-    ghost tall: { vec_len table.heights ≡ 4225 },
-    ghost wide: { vec_len table.bounds ≡ 16384 },
-    ghost roomy: { vec_len table.scratch ≡ 16384 },
 }

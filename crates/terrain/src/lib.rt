@@ -6,7 +6,6 @@ pub mod draft;
 pub mod fault;
 pub mod map;
 pub mod relief;
-mod scope;
 mod table;
 #[cfg(test)]
 mod tests;

@@ -1,4 +1,3 @@
-ghost use Rattle.std.specs.Prelude.{◌≡◌, vec_len};
 ghost use Rattle.bintree.specs.Views.{order_value};
 ghost use Rattle.terrain.specs.Bounds.{FinestZero, WithinLimit, AboveHalves};
 ghost use Rattle.terrain.specs.Tables.{heights_in, bounds_in};
@@ -15,9 +14,6 @@ pub mod fill;
 pub struct Map {
     order: Order,
     table: Table,
-    ghost tall: { vec_len table.heights ≡ 4225 },
-    ghost wide: { vec_len table.bounds ≡ 16384 },
-    ghost roomy: { vec_len table.scratch ≡ 16384 },
     ghost finest: { FinestZero (order_value order) (bounds_in (order_value order) table.bounds.items) },
     ghost limited: { WithinLimit (order_value order) (bounds_in (order_value order) table.bounds.items) },
     ghost above: { AboveHalves (order_value order) (heights_in (order_value order) table.heights.items) (bounds_in (order_value order) table.bounds.items) },

@@ -1,7 +1,10 @@
+ghost use Rattle.std.specs.Prelude.{◌≡◌, vec_len};
+
 mod fill;
 pub(crate) mod places;
 mod settle;
 mod steps;
+mod surface;
 
 // How many samples a row of the largest square has, how many the whole square, and the number past its last triangle.
 const ROW: usize = 65;
@@ -17,4 +20,7 @@ pub(crate) struct Table {
     pub(crate) heights: Vec<u16>,
     pub(crate) bounds: Vec<u32>,
     pub(crate) scratch: Vec<u32>,
+    ghost tall: { vec_len heights ≡ 4225 },
+    ghost wide: { vec_len bounds ≡ 16384 },
+    ghost roomy: { vec_len scratch ≡ 16384 },
 }

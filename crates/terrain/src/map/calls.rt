@@ -16,9 +16,6 @@ use bintree::point::Point;
 impl Map {
     // The map of the heights in a table, with the measured bounds.
     pub(crate) fn of_heights(order: Order, mut table: Table) -> Map
-        requires tall { vec_len table.heights ≡ 4225 }
-        requires wide { vec_len table.bounds ≡ 16384 }
-        requires roomy { vec_len table.scratch ≡ 16384 }
         ensures value { map_view result ≡ measuring (sketch_view (order_value order) table) }
         ensures laws { MeasureLaws (sketch_view (order_value order) table) }
     {
@@ -37,10 +34,9 @@ impl Map {
     pub fn height(&self, p: Point) -> Option<u16>
         ensures { result ≡ height_of (map_view self.now) p }
     {
-        match place_of(self.order, p) {
-            Ok(at) => Some(self.table.heights[at]),
-            Err(_) => None,
-        }
+        place_of(self.order, p)
+            .ok()
+            .map(|at| self.table.heights[at])
     }
 
     // The bound of a triangle; none where the number is no triangle. No sample of the triangle stands further from the plane of its corners

@@ -36,13 +36,7 @@ fn fill_bounds<S: Relief>(table: &mut [u32], order: Order, source: &S)
 impl Table {
     // Puts the heights and the bounds that a source gives at this order in the place of those that are there.
     pub(crate) fn fill<S: Relief>(&mut self, order: Order, source: &S)
-        requires tall { vec_len self.old.heights ≡ 4225 }
-        requires wide { vec_len self.old.bounds ≡ 16384 }
-        requires roomy { vec_len self.old.scratch ≡ 16384 }
-        ensures tall { vec_len self.new.heights ≡ 4225 }
-        ensures wide { vec_len self.new.bounds ≡ 16384 }
-        ensures roomy { vec_len self.new.scratch ≡ 16384 }
-        ensures value { table_view (order_value order) self.new ≡ described (order_value order) (S.Relief.heights source.now) (S.Relief.bounds source.now) }
+        ensures { table_view (order_value order) self.new ≡ described (order_value order) (S.heights source.now) (S.bounds source.now) }
     {
         fill_heights(self.heights.as_mut_slice(), order, source);
         fill_bounds(self.bounds.as_mut_slice(), order, source);

@@ -1,18 +1,19 @@
 // What a draft or a map has its table do.
-ghost use Rattle.std.specs.Prelude.{◌≡◌, replicate, IfOk, vec_len};
+ghost use Rattle.std.specs.Prelude.{◌≡◌, ℕ, ◌<◌, ◌≤◌, slice_index, replicate, IfOk, MatchOption};
 ghost use Rattle.bintree.specs.Refusals.{told};
 ghost use Rattle.bintree.specs.Views.{order_value};
 ghost use Rattle.terrain.specs.Bounds.{WithinLimit, measured};
+ghost use Rattle.terrain.specs.Carving.{highest_passing};
 ghost use Rattle.terrain.specs.Grounds.{carving, bound_of, left_by};
 ghost use Rattle.terrain.specs.Laws.{MeasureLaws};
 ghost use Rattle.terrain.specs.Refusals.{carve_refusal};
 ghost use Rattle.terrain.specs.Tables.{heights_in, bounds_in};
 ghost use Rattle.terrain.specs.Views.{table_view, sketch_view};
+ghost use Rattle.terrain.specs.Working.{new_bounds};
 
 use crate::fault::CarveFault;
-use crate::scope::Scope;
 use crate::table::places::place_of;
-use crate::table::settle::settle_all;
+use crate::table::surface::Surface;
 use crate::table::{SAMPLES, TRIANGLES, Table};
 use bintree::order::Order;
 use bintree::point::Point;
@@ -22,8 +23,7 @@ use std::mem;
 impl Table {
     // All the memory that a draft, and the map that it becomes, will ever need, with all heights 0.
     pub(crate) fn new(heap: Global) -> Result<Table, AllocError>
-        ensures { IfOk result (λ t. (t.heights.items ≡ replicate 4225 0) × (vec_len t.heights ≡ 4225)
-            × (vec_len t.bounds ≡ 16384) × (vec_len t.scratch ≡ 16384)) }
+        ensures { IfOk result (λ t. t.heights.items ≡ replicate 4225 0) }
     {
         let heights = vec![in heap; 0; SAMPLES]?;
         let bounds = vec![in heap; 0; TRIANGLES]?;
@@ -35,66 +35,52 @@ impl Table {
         })
     }
 
+    // Works all bounds that are due out anew, into the scratch room. Answers the highest-numbered triangle whose new bound passes the limit.
+    fn settle(&mut self, order: Order, around: Option<Point>) -> Option<u32>
+        requires limited { WithinLimit (order_value order) (bounds_in (order_value order) self.old.bounds.items) }
+        ensures small { (k : ℕ) → slice_index self.old.heights.items k ≤ 65535 }
+        ensures heights { self.new.heights ≡ self.old.heights }
+        ensures bounds { self.new.bounds ≡ self.old.bounds }
+        ensures new { bounds_in (order_value order) self.new.scratch.items
+            ≡ new_bounds around (order_value order) self.old.heights.items self.old.bounds.items }
+        ensures passing { MatchOption result
+            (highest_passing (order_value order) (new_bounds around (order_value order) self.old.heights.items self.old.bounds.items) ≡ 0)
+            (λ i. (0 < i) × (i ≡ highest_passing (order_value order) (new_bounds around (order_value order) self.old.heights.items self.old.bounds.items))) }
+    {
+        let surface = Surface::new(self.heights.as_slice(), self.bounds.as_slice());
+        surface.settle_all(self.scratch.as_mut_slice(), order, around)
+    }
+
     // Puts the measured bounds in the place of whatever bounds there are. None of them passes the limit, so there is nothing to refuse.
     pub(crate) fn measure(&mut self, order: Order)
-        requires tall { vec_len self.old.heights ≡ 4225 }
-        requires wide { vec_len self.old.bounds ≡ 16384 }
-        requires roomy { vec_len self.old.scratch ≡ 16384 }
-        ensures tall { vec_len self.new.heights ≡ 4225 }
-        ensures wide { vec_len self.new.bounds ≡ 16384 }
-        ensures roomy { vec_len self.new.scratch ≡ 16384 }
         ensures heights { self.new.heights.items ≡ self.old.heights.items }
         ensures bounds { bounds_in (order_value order) self.new.bounds.items
             ≡ measured (order_value order) (heights_in (order_value order) self.old.heights.items) }
         ensures laws { MeasureLaws (sketch_view (order_value order) self.old) }
     {
         self.bounds.fill(0);
-        let _ = settle_all(
-            self.heights.as_slice(),
-            self.bounds.as_slice(),
-            self.scratch.as_mut_slice(),
-            order,
-            Scope::Everywhere,
-        );
+        let _ = self.settle(order, None);
         mem::swap(&mut self.bounds, &mut self.scratch);
     }
 
     // The bound of a triangle; none where the number is no triangle.
     pub(crate) fn bound(&self, order: Order, number: u32) -> Option<u32>
-        requires { vec_len self.now.bounds ≡ 16384 }
         ensures { result ≡ bound_of (table_view (order_value order) self.now) number }
     {
-        match order.triangle(number) {
-            Some(_) => Some(self.bounds[number as usize]),
-            None => None,
-        }
+        order.triangle(number).map(|_| self.bounds[number as usize])
     }
 
     // Carves a sample, or refuses and leaves heights and bounds as they are.
     pub(crate) fn carve(&mut self, order: Order, p: Point, z: u16) -> Result<(), CarveFault>
-        requires tall { vec_len self.old.heights ≡ 4225 }
-        requires wide { vec_len self.old.bounds ≡ 16384 }
-        requires roomy { vec_len self.old.scratch ≡ 16384 }
         requires limited { WithinLimit (order_value order) (bounds_in (order_value order) self.old.bounds.items) }
-        ensures tall { vec_len self.new.heights ≡ 4225 }
-        ensures wide { vec_len self.new.bounds ≡ 16384 }
-        ensures roomy { vec_len self.new.scratch ≡ 16384 }
         ensures answer { told (λ _. table_view (order_value order) self.new) carve_refusal result ≡ carving p z (table_view (order_value order) self.old) }
         ensures after { table_view (order_value order) self.new ≡ left_by (carving p z (table_view (order_value order) self.old)) (table_view (order_value order) self.old) }
     {
         let at = place_of(order, p)?;
-        let before = self.heights[at];
-        self.heights[at] = z;
-        let passing = settle_all(
-            self.heights.as_slice(),
-            self.bounds.as_slice(),
-            self.scratch.as_mut_slice(),
-            order,
-            Scope::Around(p),
-        );
-        if passing > 0 {
+        let before = mem::replace(&mut self.heights[at], z);
+        if let Some(triangle) = self.settle(order, Some(p)) {
             self.heights[at] = before;
-            return Err(CarveFault::Passing(passing));
+            return Err(CarveFault::Passing(triangle));
         }
         mem::swap(&mut self.bounds, &mut self.scratch);
         Ok(())

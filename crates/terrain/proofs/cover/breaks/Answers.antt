@@ -3,7 +3,7 @@ use Rattle.std.proofs.Common.{◌≡◌, ℕ, ◌+◌, max, Bool, ◌||◌, ltb,
 use Rattle.std.proofs.lemmas.Bool.{or_left, lt-ltb, le-ltb}
 use Rattle.terrain.specs.Bounds.{limit}
 use Rattle.terrain.specs.Filling.{bounding, described, breaks_rule}
-use Rattle.terrain.proofs.Options.{promised}
+use Rattle.std.proofs.lemmas.Option.{MatchOption-at_some}
 use Rattle.terrain.proofs.Fillings.{rule_read}
 use Rattle.terrain.proofs.cover.breaks.Goals as goal
 use Rattle.terrain.proofs.cover.breaks.Goals.{After-from-2, at-returns-then-bound-gt16777215, at-returns-else-bound-gt16777215}
@@ -14,7 +14,7 @@ tested : (g : Rattle.terrain.proofs.cover.breaks.Given.Over) (c : After-from-2 g
     ≡ (ltb limit c.bound_of-bound.result || ltb c.bound_of-bound.result (c.offset.result + max c.bound_of.result c.bound_of-2.result))
 tested g c =
     let b = g.S.Relief.bounds c.args.source.now in
-    let h = promised _ _ _ _ c.unwrap-halves.ensures c.halves.ensures in
+    let h = MatchOption-at_some _ _ _ c.unwrap-halves.ensures c.halves.ensures in
     rule_read c.args.t.order.n (g.S.Relief.heights c.args.source.now) b c.args.t.number _ _ _ _ c.args.t.low h.0
     c.bound_of-bound.ensures (c.bound_of.ensures ∙ ap₂ (λ (m k : ℕ). bounding m b k) h.1 h.2)
     (c.bound_of-2.ensures ∙ ap₂ (λ (m k : ℕ). bounding m b k) h.3 h.4) c.offset.ensures.value

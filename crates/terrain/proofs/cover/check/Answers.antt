@@ -5,7 +5,7 @@ use Rattle.bintree.specs.Orders.{is_triangle}
 use Rattle.bintree.proofs.Numbers.{end_twice}
 use Rattle.terrain.specs.Filling.{described, breaks_rule}
 use Rattle.terrain.proofs.Highest.{is_tri}
-use Rattle.terrain.proofs.Options.{promised}
+use Rattle.std.proofs.lemmas.Option.{MatchOption-at_some}
 use Rattle.terrain.proofs.Fillings.{none_breaking, first_breaking}
 use Rattle.terrain.proofs.cover.check.Goals as goal
 
@@ -20,7 +20,7 @@ returns-then-breaks g c =
     let i = c.loop-number.number in
     let z = g.S.Relief.heights c.args.source.now in
     let b = g.S.Relief.bounds c.args.source.now in
-    let k = promised _ _ _ _ c.unwrap-t.ensures c.triangle.ensures in
+    let k = MatchOption-at_some _ _ _ c.unwrap-t.ensures c.triangle.ensures in
     let t : breaks_rule (described n z b) i ≡ true = sym (ap₂ (λ (m j : ℕ). breaks_rule (described m z b) j) k.1 k.2) ∙ sym c.if-breaks.ensures in
     (omega arith, sym (first_breaking (described n z b) i (omega arith) (omega arith) t c.loop-number.invariant))
 

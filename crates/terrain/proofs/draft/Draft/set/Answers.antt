@@ -10,6 +10,6 @@ pub returns : goal.returns
 returns c =
     let d = c.args.self.now in
     let k = c.in_ok-at.ensures in
-    let long : length (vec_items d.table.heights) ≡ 4225 = sym d.table.heights.ok.0 ∙ d.tall in
+    let long : length (vec_items d.table.heights) ≡ 4225 = sym d.table.heights.ok.0 ∙ d.table.tall in
     let told = sets d.order.n (vec_items d.table.heights) c.args.p c.args.z c.in_ok-at.at d.order.high long k.0 k.1 in
     record { answer = told; after = ap {A = Reply Sketch} {B = Sketch} (λ r. left_by r (draft_view d)) told }

@@ -8,7 +8,7 @@ pub invariant_of-self : goal.invariant_of-self
 invariant_of-self c =
     let m = c.args.self.now in
     let k = carving_covers c.args.p c.args.z (map_view m) _ (map_covers m) c.carve.ensures.after in
-    record { tall = c.carve.ensures.tall; wide = c.carve.ensures.wide; roomy = c.carve.ensures.roomy; finest = k.finest; limited = k.limited; above = k.above }
+    record { finest = k.finest; limited = k.limited; above = k.above }
 
 pub returns : goal.returns
 returns c = record { answer = c.carve.ensures.answer; after = c.carve.ensures.after; laws = carve_laws c.args.p c.args.z (map_view c.args.self.now) }

@@ -12,16 +12,16 @@ use Rattle.terrain.proofs.map.Map.fill.Goals as goal
 
 pub invariant_of-self : goal.invariant_of-self
 invariant_of-self g c =
-    let k = subst Covered (sym c.fill.ensures.value)
+    let k = subst Covered (sym c.fill.ensures)
     (none_covered c.args.order.n (g.S.Relief.heights c.args.source.now) (g.S.Relief.bounds c.args.source.now) c.in_ok-check.ensures) in
-    record { tall = c.fill.ensures.tall; wide = c.fill.ensures.wide; roomy = c.fill.ensures.roomy; finest = k.finest; limited = k.limited; above = k.above }
+    record { finest = k.finest; limited = k.limited; above = k.above }
 
 pub returns : goal.returns
 returns g c =
     let n = c.args.order.n in
     let z = g.S.Relief.heights c.args.source.now in
     let b = g.S.Relief.bounds c.args.source.now in
-    let e = ap {A = Ground} {B = Reply Ground} given c.fill.ensures.value ∙ fills n z b c.in_ok-check.ensures in
+    let e = ap {A = Ground} {B = Reply Ground} given c.fill.ensures ∙ fills n z b c.in_ok-check.ensures in
     record { answer = e; after = ap {A = Reply Ground} {B = Ground} (λ r. left_by r (map_view c.args.self.now)) e; laws = fill_laws n z b }
 
 pub returns-in_err-check : goal.returns-in_err-check

@@ -1,21 +1,25 @@
 -- A read at a triangle's number.
-use Rattle.std.proofs.Common.{◌≡◌, ◌<◌, get_or, vec_items, vec_len, arith, rules}
+use Rattle.std.proofs.Common.{◌<◌, sym, vec_items, vec_len, rules, arith}
+use Rattle.std.proofs.lemmas.Bool.{cond-false}
 use Rattle.std.proofs.lemmas.List.{get_or_read}
+use Rattle.std.proofs.lemmas.Option.{MatchOption-at_some, MatchOption-at_none}
+use Rattle.bintree.specs.Orders.{is_triangle}
 use Rattle.bintree.proofs.Sizes.{end_bound}
 use Rattle.terrain.specs.Tables.{heights_in}
 use Rattle.terrain.proofs.Highest.{triangle_high}
+use Rattle.terrain.proofs.Options.{mapped}
 use Rattle.terrain.proofs.Replies.{reads_bound}
 use Rattle.terrain.proofs.table.Table.bound.Goals as goal
 
-pub index-requires : goal.index-requires
-index-requires c =
-    omega (arith, triangle_high c.args.order.n c.args.number c.in-Some.ensures.0, end_bound c.args.order.n c.args.order.high, c.requires)
+pub map-requires : goal.map-requires
+map-requires c = grind (arith, triangle_high, end_bound)
 
-pub returns-in-Some : goal.returns-in-Some
-returns-in-Some c =
+pub returns : goal.returns
+returns c =
     let n = c.args.order.n in
     let t = c.args.self.now in
-    let k = c.in-Some.ensures.0 in
-    let l : c.args.number < vec_len t.bounds = omega (arith, triangle_high n c.args.number k, end_bound n c.args.order.high, c.requires) in
-    let e : c.index.result.now ≡ get_or (vec_items t.bounds) c.args.number 0 = search (rules, get_or_read) in
-    reads_bound n (heights_in n (vec_items t.heights)) (vec_items t.bounds) c.args.number _ k e
+    mapped c.triangle.result c.map.result _ _ c.map.ensures.cases
+    (λ e. sym (cond-false (is_triangle n c.args.number) _ _ (MatchOption-at_none _ _ e c.triangle.ensures)))
+    (λ i b e q. let k = MatchOption-at_some _ _ i e c.triangle.ensures in
+    let l : c.args.number < vec_len t.bounds = omega (arith, triangle_high n c.args.number k.0, end_bound n c.args.order.high) in
+    reads_bound n (heights_in n (vec_items t.heights)) (vec_items t.bounds) c.args.number b k.0 (search (rules, get_or_read)))

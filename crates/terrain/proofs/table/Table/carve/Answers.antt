@@ -1,6 +1,5 @@
 -- Done, the table holds the carved map; refused, the one height that was put is put back.
-use Rattle.std.proofs.Common.{◌≡◌, ℕ, List, length, get_or, set, vec_items, vec_len, sym, ap, ◌∙◌, arith}
-use Rattle.std.proofs.VecSteps.Gaps.{with_items_is}
+use Rattle.std.proofs.Common.{◌≡◌, ℕ, List, length, get_or, set, vec_items, sym, ap, ◌∙◌}
 use Rattle.std.proofs.lemmas.List.{set-set, set-get_or}
 use Rattle.bintree.specs.Refusals.{Reply}
 use Rattle.terrain.specs.Grounds.{Ground, left_by}
@@ -13,20 +12,22 @@ use Rattle.terrain.proofs.table.Table.carve.Goals as goal
 put_back : (zs : List ℕ) (i z x : ℕ) → x ≡ get_or zs i x → set (set zs i z) i x ≡ zs
 put_back zs i z x e = set-set zs i z x ∙ (ap (set zs i) e ∙ set-get_or zs i x)
 
-pub returns-then-passing-gt0 : goal.returns-then-passing-gt0
-returns-then-passing-gt0 c =
+pub returns-in-Some : goal.returns-in-Some
+returns-in-Some c =
     let n = c.args.order.n in
     let t = c.args.self.now in
     let k = c.in_ok-at.ensures in
-    let long : length (vec_items t.heights) ≡ 4225 = sym t.heights.ok.0 ∙ c.requires.tall in
-    let told = refuses n (vec_items t.heights) (vec_items t.bounds) c.args.p c.args.z c.in_ok-at.at c.args.order.high long k.0 k.1 _
-    (rw (c.as_slice.ensures.value, c.as_slice-2.ensures.value) at c.settle_all-passing.ensures.passing) (λ e. omega arith) in
+    let long : length (vec_items t.heights) ≡ 4225 = sym t.heights.ok.0 ∙ t.tall in
+    let s = rw c.replace-before.ensures.after at c.in-Some.ensures in
+    let at = c.in_ok-at.at in
+    let x = c.replace-before.result in
+    let held : x ≡ get_or (vec_items t.heights) at x = c.replace-before.ensures.value ∙ (c.index_mut.ensures.value ∙ ap (get_or (vec_items t.heights) at) (sym c.replace-before.ensures.value)) in
+    let back : set (vec_items c.settle.new.self.heights) at x ≡ vec_items t.heights
+    = ap (λ (v : _). set (vec_items v) at x) s.heights ∙ put_back (vec_items t.heights) at c.args.z x held in
+    let told = refuses n (vec_items t.heights) (vec_items t.bounds) c.args.p c.args.z c.in_ok-at.at c.args.order.high long k.0 k.1 _ s.passing.0 s.passing.1 in
     record {
-      tall = c.requires.tall;
-      wide = c.requires.wide;
-      roomy = c.requires.roomy;
       answer = told;
-      after = ap {A = List ℕ} {B = Ground} (λ l. record { order = n; heights = heights_in n l; bounds = bounds_in n (vec_items t.bounds) }) (put_back _ _ _ _ c.index-before.ensures)
+      after = (λ i. record { order = n; heights = heights_in n (back i); bounds = bounds_in n (vec_items (s.bounds i)) })
           ∙ ap {A = Reply Ground} {B = Ground} (λ r. left_by r (table_view n t)) told;
     }
 
@@ -35,17 +36,8 @@ returns c =
     let n = c.args.order.n in
     let t = c.args.self.now in
     let k = c.in_ok-at.ensures in
-    let long : length (vec_items t.heights) ≡ 4225 = sym t.heights.ok.0 ∙ c.requires.tall in
-    let new = c.settle_all-passing.new.scratch in
-    let swapped : vec_items c.swap.new.x ≡ new = ap vec_items c.swap.ensures.x_after ∙ with_items_is t.scratch new (omega arith) in
-    let told = carves n (vec_items t.heights) (vec_items t.bounds) c.args.p c.args.z c.in_ok-at.at c.args.order.high long k.0 k.1
-    (vec_items c.swap.new.x) _
-    (ap (bounds_in n) swapped ∙ (rw (c.as_slice.ensures.value, c.as_slice-2.ensures.value) at c.settle_all-passing.ensures.bounds))
-    (rw (c.as_slice.ensures.value, c.as_slice-2.ensures.value) at c.settle_all-passing.ensures.passing) (omega arith) in
-    record {
-      tall = c.requires.tall;
-      wide = ap vec_len c.swap.ensures.x_after ∙ c.requires.roomy;
-      roomy = ap vec_len c.swap.ensures.y_after ∙ c.requires.wide;
-      answer = told;
-      after = ap {A = Reply Ground} {B = Ground} (λ r. left_by r (table_view n t)) told;
-    }
+    let long : length (vec_items t.heights) ≡ 4225 = sym t.heights.ok.0 ∙ t.tall in
+    let s = rw c.replace-before.ensures.after at c.in_default.ensures in
+    let told = carves n (vec_items t.heights) (vec_items t.bounds) c.args.p c.args.z c.in_ok-at.at c.args.order.high long k.0 k.1 _ _
+    (ap vec_items s.heights) (ap (λ (v : _). bounds_in n (vec_items v)) c.swap.ensures.x_after ∙ s.new) s.passing in
+    record { answer = told; after = ap {A = Reply Ground} {B = Ground} (λ r. left_by r (table_view n t)) told }

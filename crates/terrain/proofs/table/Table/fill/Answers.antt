@@ -10,4 +10,4 @@ returns g c =
     let m = c.args.self.now in
     let h = ap (heights_in n) (with_items_is m.heights c.fill_heights.new.rows (omega arith)) ∙ c.fill_heights.ensures in
     let b = ap (bounds_in n) (with_items_is m.bounds c.fill_bounds.new.table (omega arith)) ∙ c.fill_bounds.ensures in
-    record { tall = c.requires.tall; wide = c.requires.wide; roomy = c.requires.roomy; value = λ i. record { order = n; heights = h i; bounds = b i } }
+    λ i. record { order = n; heights = h i; bounds = b i }

@@ -10,4 +10,4 @@ pub returns-in_err-scratch : goal.returns-in_err-scratch
 returns-in_err-scratch c = search (rules, IfOk-from_err)
 
 pub returns : goal.returns
-returns c = (c.in_ok-heights.ensures.items_if_clones_equal (λ y e. e), c.in_ok-heights.ensures.len, c.in_ok-bounds.ensures.len, c.in_ok-scratch.ensures.len)
+returns c = c.in_ok-heights.ensures.items_if_clones_equal (λ y e. e)

@@ -4,7 +4,7 @@ use Rattle.std.proofs.lemmas.Bool.{some_since, both_ways}
 use Rattle.bintree.specs.Orders.{end, is_triangle}
 use Rattle.bintree.proofs.Numbers.{end_is}
 use Rattle.terrain.proofs.Highest.{is_tri}
-use Rattle.terrain.proofs.Options.{promised}
+use Rattle.std.proofs.lemmas.Option.{MatchOption-at_some}
 use Rattle.terrain.proofs.table.settle.root.Goals as goal
 
 pub unwrap-requires : goal.unwrap-requires
@@ -14,4 +14,4 @@ unwrap-requires c =
     some_since _ _ _ c.triangle.ensures (λ f. both_ways (is_triangle n c.args.number) f (is_tri n c.args.number c.requires.low l))
 
 pub returns : goal.returns
-returns c = let k = promised _ _ _ _ c.unwrap.ensures c.triangle.ensures in record { order = k.1; number = k.2 }
+returns c = let k = MatchOption-at_some _ _ _ c.unwrap.ensures c.triangle.ensures in record { order = k.1; number = k.2 }

@@ -1,0 +1,19 @@
+-- Both roots are settled, one after the other, and with them every triangle.
+use Rattle.std.proofs.Common.{ap}
+use Rattle.terrain.specs.Tables.{bounds_in}
+use Rattle.terrain.proofs.Settlings.{settles_as, higher, settled, settled_passing}
+use Rattle.terrain.proofs.table.surface.Surface.settle_all.Goals as goal
+
+pub returns : goal.returns
+returns c =
+    let n = c.args.order.n in
+    let zs = c.args.self.now.heights.now in
+    let bs = c.args.self.now.bounds.now in
+    let low = settles_as c.args.around _ n zs bs _ _ _ 2 _ _ c.root.ensures.order c.root.ensures.number c.settle-low.ensures in
+    let high = settles_as c.args.around _ n zs bs _ _ _ 3 _ _ c.root-2.ensures.order c.root-2.ensures.number c.settle-high.ensures in
+    let start = ap (bounds_in n) c.copy_from_slice.ensures.after in
+    let best = higher _ _ _ c.max.ensures in
+    record {
+      bounds = settled c.args.around n zs bs _ _ _ _ _ _ _ _ start low high best;
+      passing = settled_passing c.args.around n zs bs _ _ _ _ _ _ _ _ start low high best c.requires.limited;
+    }
