@@ -1,6 +1,6 @@
 // Working bounds out anew, by recursion into the halves.
 ghost use Rattle.std.specs.Prelude.{◌≡◌, ◌+◌, ◌*◌, ◌<◌, ◌≤◌, true, false, length, MatchOption};
-ghost use Rattle.bintree.specs.Views.{order_value, order_of, number_of};
+ghost use Rattle.bintree.specs.Views.{order_value, order_of, number_of, Is};
 ghost use Rattle.terrain.specs.Bounds.{WithinLimit};
 ghost use Rattle.terrain.specs.Carving.{highest_passing};
 ghost use Rattle.terrain.specs.Tables.{bounds_in};
@@ -29,8 +29,7 @@ struct Settled {
 fn due_halves(t: Triangle, around: Option<Point>) -> Option<(Triangle, Triangle)>
     ensures { MatchOption result (due around (order_of t) (number_of t) ≡ false)
         (λ h. (due around (order_of t) (number_of t) ≡ true)
-        × (order_of h.0 ≡ order_of t) × (number_of h.0 ≡ 2 * number_of t)
-        × (order_of h.1 ≡ order_of t) × (number_of h.1 ≡ 2 * number_of t + 1)) }
+        × Is h.0 (order_of t) (2 * number_of t) × Is h.1 (order_of t) (2 * number_of t + 1)) }
 {
     let halves = t.halves()?;
     around

@@ -16,8 +16,8 @@ tested g c =
     let b = g.S.Relief.bounds c.args.source.now in
     let h = MatchOption-at_some _ _ _ c.unwrap-halves.ensures c.halves.ensures in
     rule_read c.args.t.order.n (g.S.Relief.heights c.args.source.now) b c.args.t.number _ _ _ _ c.args.t.low h.0
-    c.bound_of-bound.ensures (c.bound_of.ensures ∙ ap₂ (λ (m k : ℕ). bounding m b k) h.1 h.2)
-    (c.bound_of-2.ensures ∙ ap₂ (λ (m k : ℕ). bounding m b k) h.3 h.4) c.offset.ensures.value
+    c.bound_of-bound.ensures (c.bound_of.ensures ∙ ap₂ (λ (m k : ℕ). bounding m b k) h.1.0 h.1.1)
+    (c.bound_of-2.ensures ∙ ap₂ (λ (m k : ℕ). bounding m b k) h.2.0 h.2.1) c.offset.ensures.value
 
 pub returns-then-bound-gt16777215 : goal.returns-then-bound-gt16777215
 returns-then-bound-gt16777215 g c =

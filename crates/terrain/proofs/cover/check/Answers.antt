@@ -21,7 +21,7 @@ returns-then-breaks g c =
     let z = g.S.Relief.heights c.args.source.now in
     let b = g.S.Relief.bounds c.args.source.now in
     let k = MatchOption-at_some _ _ _ c.unwrap-t.ensures c.triangle.ensures in
-    let t : breaks_rule (described n z b) i ≡ true = sym (ap₂ (λ (m j : ℕ). breaks_rule (described m z b) j) k.1 k.2) ∙ sym c.if-breaks.ensures in
+    let t : breaks_rule (described n z b) i ≡ true = sym (ap₂ (λ (m j : ℕ). breaks_rule (described m z b) j) k.1.0 k.1.1) ∙ sym c.if-breaks.ensures in
     (omega arith, sym (first_breaking (described n z b) i (omega arith) (omega arith) t c.loop-number.invariant))
 
 pub returns : goal.returns

@@ -14,7 +14,7 @@ loop-number-preserved g c j p q =
     let b = g.S.Relief.bounds c.args.source.now in
     let n = c.args.order.n in
     let k = MatchOption-at_some _ _ _ c.unwrap-t.ensures c.triangle.ensures in
-    let v : c.bound_of.result ≡ bounding n b i = c.bound_of.ensures ∙ ap₂ (λ (m d : ℕ). bounding m b d) k.1 k.2 in
+    let v : c.bound_of.result ≡ bounding n b i = c.bound_of.ensures ∙ ap₂ (λ (m d : ℕ). bounding m b d) k.1.0 k.1.1 in
     let here : i < length bs = omega arith in
     ⊎_elim
     (λ e. subst (λ (d : ℕ). get_or (set bs i c.bound_of.result) d 0 ≡ bounding n b d) (sym e) (get_or-set_same bs i c.bound_of.result 0 here ∙ v))

@@ -20,4 +20,4 @@ returns c =
     let t = c.args.t in
     let k = c.in_ok-halves.ensures in
     let test = is_due c.args.around t.order.n t.number c.is_none_or.result _ t.low k.0 (λ p h. search rules) c.is_none_or.ensures in
-    chosen _ _ _ _ _ c.then_some.ensures (λ f. sym test ∙ f) (λ e. (sym test ∙ e, k.1, k.2, k.3, k.4))
+    chosen _ _ _ _ _ c.then_some.ensures (λ f. sym test ∙ f) (λ e. (sym test ∙ e, k.1, k.2))

@@ -14,4 +14,4 @@ unwrap-requires c =
     some_since _ _ _ c.triangle.ensures (λ f. both_ways (is_triangle n c.args.number) f (is_tri n c.args.number c.requires.low l))
 
 pub returns : goal.returns
-returns c = let k = MatchOption-at_some _ _ _ c.unwrap.ensures c.triangle.ensures in record { order = k.1; number = k.2 }
+returns c = let k = MatchOption-at_some _ _ _ c.unwrap.ensures c.triangle.ensures in record { order = k.1.0; number = k.1.1 }

@@ -21,8 +21,8 @@ overflow_add-bound t c =
     let h = c.in-Some.ensures in
     let heights = heights_small n s.heights.now 65535 s.small in
     let fits = sum_fits c.args.around n s.heights.now s.bounds.now in
-    let low = fits _ _ _ _ _ _ _ c.args.t.order.high heights c.requires.limited c.offset.ensures.bound h.1 c.settle-low.ensures in
-    let high = fits _ _ _ _ _ _ _ c.args.t.order.high heights c.requires.limited c.offset.ensures.bound h.3 c.settle-high.ensures in
+    let low = fits _ _ _ _ _ _ _ c.args.t.order.high heights c.requires.limited c.offset.ensures.bound h.1.0 c.settle-low.ensures in
+    let high = fits _ _ _ _ _ _ _ c.args.t.order.high heights c.requires.limited c.offset.ensures.bound h.2.0 c.settle-high.ensures in
     omega (arith, c.max.ensures)
 
 pub bounds-scratch-number : goal.bounds-scratch-number
@@ -37,6 +37,6 @@ returns t c =
     c.args.t.number c.number-number.result c.offset.result c.settle-low.result.bound c.settle-high.result.bound c.max.result
     c.settle-low.result.passing c.settle-high.result.passing _ _ _ _ _ _ _
     h.0 (omega (arith, end_bound n c.args.t.order.high)) c.number-number.ensures
-    h.1 h.2 c.settle-low.ensures h.3 h.4 c.settle-high.ensures
+    h.1.0 h.1.1 c.settle-low.ensures h.2.0 h.2.1 c.settle-high.ensures
     (c.offset.ensures.value ∙ ap (λ (z : Heights). offset n z c.args.t.number) (list_sampled n s.heights.now)) c.max.ensures
     c.then_some-own.ensures c.max-2.ensures c.max-3.ensures
