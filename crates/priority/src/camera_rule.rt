@@ -29,6 +29,9 @@ impl<'a> Policy for CameraRule<'a> {
         let Some(t) = self.map.order().triangle(triangle) else {
             return 0;
         };
-        self.map.bound(triangle).map_or(0, |bound| self.lens.seen(bound, t))
+        match self.map.bound(triangle) {
+            Some(bound) => self.lens.seen(bound, t),
+            None => 0,
+        }
     }
 }
