@@ -9,6 +9,9 @@ use crate::relief::{CoverFault, Relief};
 use bintree::order::Order;
 use bintree::triangle::Triangle;
 
+// No bound of a map passes this.
+pub(crate) const LIMIT: u32 = 16_777_215;
+
 // The bound of a triangle; a finest one has none but 0.
 pub(crate) fn bound_of<S: Relief>(source: &S, t: Triangle) -> u32
     ensures { result ≡ bounding (order_of t) (S.bounds source.now) (number_of t) }
@@ -33,15 +36,17 @@ pub(crate) fn offset<S: Relief>(source: &S, t: Triangle) -> u32
 }
 
 // Whether the bound of a splittable triangle breaks a rule.
-fn breaks<S: Relief>(source: &S, t: Triangle) -> bool
-    requires { number_of t < first_finest (order_of t) }
-    ensures { result ≡ breaks_rule (described (order_of t) (S.heights source.now) (S.bounds source.now)) (number_of t) }
+fn breaks<S: Relief>(order: Order, source: &S, number: u32) -> bool
+    requires low { 2 ≤ number }
+    requires high { number < first_finest (order_value order) }
+    ensures { result ≡ breaks_rule (described (order_value order) (S.heights source.now) (S.bounds source.now)) number }
 {
-    let halves = t.halves().unwrap();
-    let bound = bound_of(source, t);
-    let greater = bound_of(source, halves.0).max(bound_of(source, halves.1));
+    let t = order.triangle(number).unwrap();
+    let (low, high) = t.halves().unwrap();
+    let bound = source.bound(number);
+    let greater = bound_of(source, low).max(bound_of(source, high));
     let least = u64::from(offset(source, t)) + u64::from(greater);
-    bound > 16777215 || u64::from(bound) < least
+    bound > LIMIT || u64::from(bound) < least
 }
 
 // Looks for the lowest-numbered triangle whose bound breaks a rule: refusal 6.
@@ -50,11 +55,9 @@ pub(crate) fn check<S: Relief>(order: Order, source: &S) -> Result<(), CoverFaul
         (λ _. lowest_breaking (described (order_value order) (S.heights source.now) (S.bounds source.now)) ≡ 0)
         (λ fault. (0 < fault.triangle) × (fault.triangle ≡ lowest_breaking (described (order_value order) (S.heights source.now) (S.bounds source.now)))) }
 {
-    for number in 2..order.first_finest() {
-        let t = order.triangle(number).unwrap();
-        if breaks(source, t) {
-            return Err(CoverFault { triangle: number });
-        }
+    let broken = (2..order.first_finest()).find(|number| breaks(order, source, *number));
+    match broken {
+        None => Ok(()),
+        Some(triangle) => Err(CoverFault { triangle }),
     }
-    Ok(())
 }

@@ -1,14 +1,14 @@
 // Drafts and maps tried on examples.
 use crate::draft::Draft;
-use crate::fault::CarveFault;
+use crate::fault::{CarveFault, PointFault};
 use crate::map::Map;
 use bintree::point::Point;
 use std::process::Abort;
 use std::test::Fail;
 
 fn bounds_are(rt: &impl Abort, map: &Map, expected: &[(u32, u32)]) {
-    for (number, bound) in expected {
-        assert_eq!(rt; map.bound(*number), Some(*bound));
+    for &(number, bound) in expected {
+        assert_eq!(rt; map.bound(number), Some(bound));
     }
 }
 
@@ -37,10 +37,8 @@ fn the_small_map(rt: HostRuntime) -> Result<(), Fail> {
 fn no_order(rt: HostRuntime) -> Result<(), Fail> {
     let mut draft = Draft::new(rt.alloc())?;
     for order in [0, 7, 255] {
-        match draft.reset(order) {
-            Err(fault) => assert_eq!(rt; fault.order, order),
-            Ok(()) => return Err(Fail::new("reset")),
-        }
+        let refused = draft.reset(order).err();
+        assert_eq!(rt; refused.map(|fault| fault.order), Some(order));
     }
     Ok(())
 }
@@ -49,15 +47,10 @@ fn no_order(rt: HostRuntime) -> Result<(), Fail> {
 fn no_sample(rt: HostRuntime) -> Result<(), Fail> {
     let mut draft = Draft::new(rt.alloc())?;
     let point = Point { x: 0, y: 3 };
-    match draft.set(point, 9) {
-        Err(fault) => assert_eq!(rt; fault.point, point),
-        Ok(()) => return Err(Fail::new("set")),
-    }
+    let outside = PointFault { point };
+    assert_eq!(rt; draft.set(point, 9), Err(outside));
     let mut map = draft.measure();
-    match map.carve(point, 9) {
-        Err(CarveFault::Outside(fault)) => assert_eq!(rt; fault.point, point),
-        _ => return Err(Fail::new("carved")),
-    }
+    assert_eq!(rt; map.carve(point, 9), Err(CarveFault::Outside(outside)));
     assert_eq!(rt; map.height(point), None);
     Ok(())
 }

@@ -6,15 +6,12 @@ ghost use Rattle.terrain.specs.Carving.{highest_passing};
 ghost use Rattle.terrain.specs.Tables.{bounds_in};
 ghost use Rattle.terrain.specs.Working.{due, new_bounds, Mixed, Settles};
 
-use crate::cover::offset;
+use crate::cover::{LIMIT, offset};
 use crate::relief::Relief;
 use crate::table::surface::Surface;
 use bintree::order::Order;
 use bintree::point::Point;
 use bintree::triangle::Triangle;
-
-// No bound of a map passes this.
-const LIMIT: u32 = 16_777_215;
 
 // What working out a triangle and all that descend from it gives: its new bound, and the highest-numbered of them whose new bound passes
 // the limit.

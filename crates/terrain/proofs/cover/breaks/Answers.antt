@@ -1,33 +1,47 @@
 -- The test of the rules, on what was read of the triangle and its halves.
-use Rattle.std.proofs.Common.{◌≡◌, ℕ, ◌+◌, max, Bool, ◌||◌, ltb, sym, ap, ◌∙◌, ap₂}
-use Rattle.std.proofs.lemmas.Bool.{or_left, lt-ltb, le-ltb}
-use Rattle.terrain.specs.Bounds.{limit}
-use Rattle.terrain.specs.Filling.{bounding, described, breaks_rule}
+use Rattle.std.proofs.Common.{◌≡◌, ℕ, ◌+◌, ◌*◌, max, Bool, ◌||◌, ltb, sym, ap, ◌∙◌, ap₂, arith}
+use Rattle.std.proofs.lemmas.Bool.{or_left, lt-ltb, le-ltb, some_since, both_ways}
 use Rattle.std.proofs.lemmas.Option.{MatchOption-at_some}
-use Rattle.terrain.proofs.Fillings.{rule_read}
+use Rattle.bintree.specs.Orders.{is_triangle}
+use Rattle.bintree.proofs.Numbers.{end_twice}
+use Rattle.terrain.specs.Bounds.{limit, offset}
+use Rattle.terrain.specs.Filling.{sampled, bounding, described, breaks_rule}
+use Rattle.terrain.proofs.Highest.{is_tri}
+use Rattle.terrain.proofs.Fillings.{bounding_splittable, rule_read}
 use Rattle.terrain.proofs.cover.breaks.Goals as goal
-use Rattle.terrain.proofs.cover.breaks.Goals.{After-from-2, at-returns-then-bound-gt16777215, at-returns-else-bound-gt16777215}
+use Rattle.terrain.proofs.cover.breaks.Goals.{After-from-2, at-returns-then-bound-gt-LIMIT, at-returns-else-bound-gt-LIMIT}
+
+pub unwrap-t-requires : goal.unwrap-t-requires
+unwrap-t-requires g c =
+    let n = c.args.order.n in
+    some_since _ _ _ c.triangle.ensures (λ f. both_ways (is_triangle n c.args.number) f (is_tri n c.args.number c.requires.low (omega (arith, end_twice n))))
 
 -- the test, from what the calls before it answered
 tested : (g : Rattle.terrain.proofs.cover.breaks.Given.Over) (c : After-from-2 g)
-    → breaks_rule (described c.args.t.order.n (g.S.Relief.heights c.args.source.now) (g.S.Relief.bounds c.args.source.now)) c.args.t.number
-    ≡ (ltb limit c.bound_of-bound.result || ltb c.bound_of-bound.result (c.offset.result + max c.bound_of.result c.bound_of-2.result))
+    → breaks_rule (described c.args.order.n (g.S.Relief.heights c.args.source.now) (g.S.Relief.bounds c.args.source.now)) c.args.number
+    ≡ (ltb limit c.bound-bound.result || ltb c.bound-bound.result (c.offset.result + max c.bound_of.result c.bound_of-2.result))
 tested g c =
+    let n = c.args.order.n in
+    let i = c.args.number in
+    let z = g.S.Relief.heights c.args.source.now in
     let b = g.S.Relief.bounds c.args.source.now in
-    let h = MatchOption-at_some _ _ _ c.unwrap-halves.ensures c.halves.ensures in
-    rule_read c.args.t.order.n (g.S.Relief.heights c.args.source.now) b c.args.t.number _ _ _ _ c.args.t.low h.0
-    c.bound_of-bound.ensures (c.bound_of.ensures ∙ ap₂ (λ (m k : ℕ). bounding m b k) h.1.0 h.1.1)
-    (c.bound_of-2.ensures ∙ ap₂ (λ (m k : ℕ). bounding m b k) h.2.0 h.2.1) c.offset.ensures.value
+    let k = MatchOption-at_some _ _ _ c.unwrap-t.ensures c.triangle.ensures in
+    let h = MatchOption-at_some _ _ _ c.unwrap.ensures c.halves.ensures in
+    rule_read n z b i _ _ _ _ c.requires.low c.requires.high
+    (c.bound-bound.ensures ∙ sym (bounding_splittable n b i c.requires.low c.requires.high))
+    (c.bound_of.ensures ∙ ap₂ (λ (m j : ℕ). bounding m b j) (h.1 ∙ k.1) (h.2 ∙ ap (λ (j : ℕ). 2 * j) k.2))
+    (c.bound_of-2.ensures ∙ ap₂ (λ (m j : ℕ). bounding m b j) (h.3 ∙ k.1) (h.4 ∙ ap (λ (j : ℕ). 2 * j + 1) k.2))
+    (c.offset.ensures.value ∙ ap₂ (λ (m j : ℕ). offset m (sampled m z) j) k.1 k.2)
 
-pub returns-then-bound-gt16777215 : goal.returns-then-bound-gt16777215
-returns-then-bound-gt16777215 g c =
-    let t = lt-ltb limit c.bound_of-bound.result c.if-bound-gt16777215.true in
-    t ∙ sym (tested g (at-returns-then-bound-gt16777215 g c).After-from-2 ∙ or_left _ _ t)
+pub returns-then-bound-gt-LIMIT : goal.returns-then-bound-gt-LIMIT
+returns-then-bound-gt-LIMIT g c =
+    let t = lt-ltb limit c.bound-bound.result c.if-bound-gt-LIMIT.true in
+    t ∙ sym (tested g (at-returns-then-bound-gt-LIMIT g c).After-from-2 ∙ or_left _ _ t)
 
-pub returns-else-bound-gt16777215 : goal.returns-else-bound-gt16777215
-returns-else-bound-gt16777215 g c =
-    let v = c.bound_of-bound.result in
+pub returns-else-bound-gt-LIMIT : goal.returns-else-bound-gt-LIMIT
+returns-else-bound-gt-LIMIT g c =
+    let v = c.bound-bound.result in
     let least = c.offset.result + max c.bound_of.result c.bound_of-2.result in
     let e : c.from.result + c.from-2.result ≡ least = ap₂ ◌+◌ c.from.ensures (c.from-2.ensures ∙ c.max-greater.ensures) in
-    ap₂ ltb c.from-else-bound-gt16777215.ensures e
-    ∙ sym (tested g (at-returns-else-bound-gt16777215 g c).After-from-2 ∙ ap (λ (t : Bool). t || ltb v least) (le-ltb limit v c.if-bound-gt16777215.false))
+    ap₂ ltb c.from-else-bound-gt-LIMIT.ensures e
+    ∙ sym (tested g (at-returns-else-bound-gt-LIMIT g c).After-from-2 ∙ ap (λ (t : Bool). t || ltb v least) (le-ltb limit v c.if-bound-gt-LIMIT.false))
