@@ -1,6 +1,9 @@
 -- Listing: what one more triangle adds to the members, to the count and to the index list.
-use Rattle.std.proofs.Common.{◌≡◌, ℕ, zero, suc, ◌+◌, ◌*◌, ◌<◌, ◌≤◌, Bool, true, false, List, [], ◌∷◌, ◌++◌, length, get_or, drop, set, sym, refl, ap, ◌∙◌, subst, append_assoc, add-one, arith, length-append, drop-cons}
+use Rattle.std.proofs.Common.{◌≡◌, ℕ, zero, suc, ◌+◌, ◌*◌, ◌<◌, ◌≤◌, Bool, true, false, List, [], ◌∷◌, ◌++◌, length, count_by, take, ◌⊎◌, inl, inr, get_or, drop, set, sym, refl, ap, ◌∙◌, subst, append_assoc, add-one, arith, length-append, drop-cons}
+use Rattle.std.proofs.lemmas.Bool.{cases_Bool}
+use Rattle.std.proofs.lemmas.List.Sums.{count_by_more_yes, count_by_more_no}
 use Rattle.bintree.specs.Meshes.{Triangles}
+use Rattle.mesh.specs.Invariant.{flagged}
 use Rattle.bintree.specs.Triangles.{corners}
 use Rattle.mesh.specs.Sets.{members}
 use Rattle.mesh.specs.IndexList.{vertex, vertices, all_vertices}
@@ -40,6 +43,15 @@ count_grows P i zero = let e : i + 0 ≡ i = omega arith in rw e (omega arith)
 count_grows P i (suc k) =
     let e : i + suc k ≡ suc (i + k) = omega arith in
     rw e (omega (arith, count_grows P i k, step_up P (i + k)))
+
+-- so many flags are set
+pub members_count : (l : List Bool) (b : ℕ) → b ≤ length l → length (members (flagged l) b) ≡ count_by (λ x. x) (take b l)
+members_count l zero h = refl
+members_count l (suc b) h = let e : suc b ≡ b + 1 = omega arith in rw e (go (cases_Bool (flagged l b)) (members_count l b (omega arith)))
+  where
+    go : (flagged l b ≡ true) ⊎ (flagged l b ≡ false) → length (members (flagged l) b) ≡ count_by (λ x. x) (take b l) → length (members (flagged l) (b + 1)) ≡ count_by (λ x. x) (take (b + 1) l)
+    go (inl t) ih = omega (arith, ih, count_in (flagged l) b t, count_by_more_yes (λ (x : Bool). x) l b false h t)
+    go (inr f) ih = omega (arith, ih, count_out (flagged l) b f, count_by_more_no (λ (x : Bool). x) l b false h f)
 
 -- the index list
 pub vertices_of : (n : ℕ) (xs ys : List ℕ) → all_vertices n (xs ++ ys) ≡ all_vertices n xs ++ all_vertices n ys
