@@ -5,6 +5,7 @@ ghost use Rattle.mesh.specs.Invariant.{Hole, Overlap, Crack};
 ghost use Rattle.mesh.specs.TriangleSet.{triangles_in};
 
 use bintree::order::Order;
+use bintree::triangle::Triangle;
 use triangle_set::TriangleSet;
 
 mod changes;
@@ -22,4 +23,31 @@ pub struct Mesh {
     ghost no_hole: { Hole (order_value order) (triangles_in present) → ⊥ },
     ghost no_overlap: { Overlap (order_value order) (triangles_in present) → ⊥ },
     ghost no_crack: { Crack (order_value order) (triangles_in present) → ⊥ },
+}
+
+impl Mesh {
+    ghost use Rattle.std.specs.Prelude.{◌≡◌, true, false, MatchOption};
+    ghost use Rattle.bintree.specs.Views.{order_of as triangle_order, number_of};
+    ghost use Rattle.mesh.specs.Sets.{mergeable as mergeable_in};
+    ghost use Rattle.mesh.specs.Views.{order_of, triangles_of};
+
+    // Triangle i, if it is present.
+    fn triangle(&self, i: u32) -> Option<Triangle>
+        ensures { MatchOption result
+            (triangles_of self.now i ≡ false)
+            (λ t. (triangles_of self.now i ≡ true) × (triangle_order t ≡ order_of self.now) × (number_of t ≡ i)) }
+    {
+        self.order.triangle(i).filter(|_| self.contains(i))
+    }
+
+    // Triangle i, if it is one of a mergeable diamond.
+    fn mergeable(&self, i: u32) -> Option<Triangle>
+        ensures { MatchOption result
+            (mergeable_in (order_of self.now) i (triangles_of self.now) ≡ false)
+            (λ t. (mergeable_in (order_of self.now) i (triangles_of self.now) ≡ true) × (triangle_order t ≡ order_of self.now) × (number_of t ≡ i)) }
+    {
+        self.order
+            .triangle(i)
+            .filter(|t| self.present.can_merge(*t))
+    }
 }

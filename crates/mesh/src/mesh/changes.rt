@@ -51,11 +51,7 @@ impl Mesh {
         ensures gives { outcome (told (λ _. done) merge_refusal result) (state_of self.new) ≡ merge_call (state_of self.old) i }
         ensures laws { is_ok result ≡ true → MergeLaws (order_of self.old) i (triangles_of self.old) (triangles_of self.new) }
     {
-        let t = self
-            .order
-            .triangle(i)
-            .filter(|t| self.present.can_merge(*t))
-            .ok_or(MergeFault { triangle: i })?;
+        let t = self.mergeable(i).ok_or(MergeFault { triangle: i })?;
         self.present.merge(t);
         Ok(())
     }

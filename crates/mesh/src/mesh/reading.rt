@@ -1,13 +1,12 @@
 // The calls that read a mesh.
-ghost use Rattle.std.specs.Prelude.{◌≡◌, true, false, MatchOption};
-ghost use Rattle.bintree.specs.Views.{order_value, order_of as triangle_order, number_of};
+ghost use Rattle.std.specs.Prelude.{◌≡◌};
+ghost use Rattle.bintree.specs.Views.{order_value};
 ghost use Rattle.mesh.specs.Sets.{count as count_of};
 ghost use Rattle.mesh.specs.Laws.{Sound, CountLaw};
 ghost use Rattle.mesh.specs.Views.{order_of, triangles_of, state_of};
 
 use crate::mesh::Mesh;
 use bintree::order::Order;
-use bintree::triangle::Triangle;
 
 impl Mesh {
     // The order of the square. Every mesh is a crack-free mesh of its order.
@@ -23,15 +22,6 @@ impl Mesh {
         ensures { result ≡ triangles_of self.now i }
     {
         self.present.contains(i)
-    }
-
-    // Triangle i, if it is in the mesh.
-    pub(super) fn triangle(&self, i: u32) -> Option<Triangle>
-        ensures { MatchOption result
-            (triangles_of self.now i ≡ false)
-            (λ t. (triangles_of self.now i ≡ true) × (triangle_order t ≡ order_of self.now) × (number_of t ≡ i)) }
-    {
-        self.order.triangle(i).filter(|_| self.contains(i))
     }
 
     // How many triangles the mesh has: two more than it splits.

@@ -68,7 +68,7 @@ impl TriangleSet {
         flags.iter().filter(|present| **present).count()
     }
 
-    // Puts the halves of t in its place.
+    // Puts the halves of t in its place. (`rejoin` is the step back: one function with a flag that says which would be no plainer.)
     fn halve(&mut self, t: Triangle)
         requires splittable { number_of t < first_finest (order_of t) }
         ensures { triangles_in self.new ≡ halved (number_of t) (triangles_in self.old) }

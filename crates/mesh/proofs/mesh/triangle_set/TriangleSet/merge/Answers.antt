@@ -1,6 +1,5 @@
-use Rattle.std.proofs.Common.{ℕ, sym, ap, ◌∙◌}
+use Rattle.std.proofs.Common.{sym, ◌∙◌}
 use Rattle.bintree.specs.Views.{order_of, number_of}
-use Rattle.mesh.specs.Sets.{rejoin}
 use Rattle.mesh.specs.TriangleSet.{triangles_in}
 use Rattle.mesh.proofs.Diamonds.{merge_alone, merge_both, partner_splits}
 use Rattle.mesh.proofs.mesh.triangle_set.TriangleSet.merge.Goals as goal
