@@ -1,5 +1,5 @@
 -- Diamonds as the code finds them: by the partner's number, 0 for none.
-use Rattle.std.proofs.Common.{◌≡◌, ℕ, ◌<◌, ◌≤◌, Bool, true, false, ◌&&◌, ◌||◌, eqb, ◌⊎◌, Some, None, Option, sym, refl, ap, ◌∙◌, subst, inl, inr, arith, MatchOption}
+use Rattle.std.proofs.Common.{◌≡◌, ℕ, ◌/◌, ◌<◌, ◌≤◌, Bool, true, false, ◌&&◌, ◌||◌, eqb, ◌⊎◌, Some, None, Option, sym, refl, ap, ◌∙◌, subst, inl, inr, arith, MatchOption, IsTrue}
 use Rattle.std.proofs.lemmas.Bool.{cases_lt, both_ways, and_from, eq-eqb, ne_eqb, le-leb, lt-ltb}
 use Rattle.bintree.specs.declared.triangle.Triangle.{Triangle}
 use Rattle.bintree.specs.Orders.{end, first_finest, is_triangle}
@@ -7,9 +7,12 @@ use Rattle.bintree.specs.Views.{order_of, number_of}
 use Rattle.bintree.specs.Triangles.{partner}
 use Rattle.bintree.specs.Meshes.{Triangles}
 use Rattle.bintree.proofs.Partners.{partners_true, partner_laws}
-use Rattle.mesh.specs.Sets.{rejoin, halves_in, mergeable, merge}
+use Rattle.mesh.specs.Sets.{holder, rejoin, halves_in, mergeable, merge}
+use Rattle.mesh.specs.Laws.{CrackFreeMesh, Holds}
 use Rattle.mesh.proofs.Square.{square_lawful}
 use Rattle.mesh.proofs.Moves.{no_partner, some_partner}
+use Rattle.mesh.proofs.Theorems.{splits_least}
+use Rattle.mesh.proofs.Unrolled.{Parent, the_parent}
 
 -- a partner is a triangle, so a number that is none says that there is no partner
 pub partner_triangle : (n i : ℕ) → 0 < partner n i → (2 ≤ partner n i) × (partner n i < end n)
@@ -66,6 +69,38 @@ pub merge_both : (n i : ℕ) (P : Triangles) → 0 < partner n i → merge n i P
 unfolding merge
 merge_both n i P p = some_partner (partner n i) _ _ p
 
+-- p is the partner of t
+abbrev pub IsPartner : Triangle → Triangle → Type 0
+IsPartner t p = (0 < partner (order_of t) (number_of t)) × (order_of p ≡ order_of t) × (number_of p ≡ partner (order_of t) (number_of t))
+
 -- the partner of a splittable triangle is splittable
-pub partner_splittable : (n i : ℕ) → 2 ≤ i → i < first_finest n → 0 < partner n i → (2 ≤ partner n i) × (partner n i < first_finest n)
-partner_splittable n i l u p = (square_lawful n).inside i l u p
+pub partner_splits : (t p : Triangle) → number_of t < first_finest (order_of t) → IsPartner t p → number_of p < first_finest (order_of p)
+partner_splits t p u q = omega (arith, ap first_finest q.1, q.2, (square_lawful (order_of t)).inside (number_of t) t.low u q.0)
+
+-- mergeable, as the code tests it
+pub mergeable_by : (t : Triangle) (P : Triangles) (o : Option Triangle) (b : Bool) → halves_in P (number_of t) ≡ true →
+    MatchOption o (partner (order_of t) (number_of t) ≡ 0) (IsPartner t) → MatchOption o (IsTrue b) (λ p. b ≡ halves_in P (number_of p)) → b ≡ mergeable (order_of t) (number_of t) P
+mergeable_by t P None b w m h = h ∙ sym (alone_mergeable (order_of t) (number_of t) P t.low t.high w m)
+mergeable_by t P (Some p) b w m h = h ∙ (ap (halves_in P) m.2 ∙ sym (both_mergeable (order_of t) (number_of t) P t.low t.high w m.0))
+
+-- the parent h of the absent partner p of t holds p, and is split first
+pub record SplitFirst (P : Triangles) (t h : Triangle) : Type 0 where
+  pub order : order_of h ≡ order_of t
+  pub is : number_of h ≡ holder P (partner (order_of t) (number_of t))
+  pub holds : Holds (order_of t) (number_of t) P (partner (order_of t) (number_of t)) (number_of h)
+
+module _ (t p : Triangle) (P : Triangles) (w : CrackFreeMesh (order_of t) P) (there : P (number_of t) ≡ true) (u : number_of t < first_finest (order_of t)) (q : IsPartner t p) (out : P (partner (order_of t) (number_of t)) ≡ false) where
+  up : Parent (order_of t) P (number_of t)
+  up = the_parent (order_of t) P w (number_of t) there u q.0 out
+
+  pub partner_low : 4 ≤ number_of p
+  partner_low = omega (arith, up.low, q.2)
+
+  pub split_first : (h : Triangle) → (4 ≤ number_of p) × (order_of h ≡ order_of p) × (number_of h ≡ number_of p / 2) → SplitFirst P t h
+  split_first h e =
+      let is : number_of h ≡ holder P (partner (order_of t) (number_of t)) = e.2 ∙ (ap (λ (y : ℕ). y / 2) q.2 ∙ sym up.is) in
+      record {
+        order = e.1 ∙ q.1;
+        is = is;
+        holds = rw is ((splits_least (order_of t) (number_of t) P w there u).rule.holds q.0 out);
+      }

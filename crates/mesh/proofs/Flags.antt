@@ -1,9 +1,15 @@
 -- Lists of flags as sets of triangles: what a write of a flag does to the set.
-use Rattle.std.proofs.Common.{◌≡◌, ℕ, ◌+◌, ◌*◌, ◌/◌, ◌<◌, ◌≤◌, Bool, true, false, cond, eqb, ◌⊎◌, List, length, set, refl, ap, ◌∙◌, inl, inr, arith, length-set}
+use Rattle.std.proofs.Common.{◌≡◌, ℕ, ◌+◌, ◌*◌, ◌/◌, ◌<◌, ◌≤◌, Bool, true, false, cond, eqb, ◌⊎◌, List, length, set, replicate, refl, ap, ◌∙◌, inl, inr, arith, length-set}
+use Rattle.std.proofs.lemmas.List.{get_or-replicate, length-replicate}
 use mathlib.Core.Path.{fun_ext}
 use Rattle.std.proofs.lemmas.List.{get_or-set_same, get_or-set_other, get_or_past}
 use Rattle.std.proofs.lemmas.Bool.{cases_eq, cases_lt, eq-eqb, ne_eqb}
+use Rattle.bintree.specs.declared.triangle.Triangle.{Triangle}
+use Rattle.bintree.specs.Orders.{first_finest}
 use Rattle.bintree.specs.Meshes.{Triangles}
+use Rattle.bintree.specs.Views.{order_of, number_of}
+use Rattle.bintree.proofs.Numbers.{end_twice}
+use Rattle.bintree.proofs.Sizes.{end_bound}
 use Rattle.forest.proofs.Basics.{halves}
 use Rattle.mesh.specs.Invariant.{flagged}
 use Rattle.mesh.specs.Sets.{roots, halve, rejoin}
@@ -27,9 +33,9 @@ flagged_three l i j k a b c hi hj hk =
     let v : length (set (set l i a) j b) ≡ length l = length-set (set l i a) j b ∙ u in
     flagged_set (set (set l i a) j b) k c (omega arith) ∙ ap (put k c) (flagged_set (set l i a) j b (omega arith) ∙ ap (put j b) (flagged_set l i a hi))
 
--- a flag past the list is not set
-pub past_flags : (l : List Bool) (i : ℕ) → length l ≤ i → flagged l i ≡ false
-past_flags l i h = get_or_past l i false h
+-- the halves of a splittable triangle have flags, and so has it
+pub halves_fit : (t : Triangle) → number_of t < first_finest (order_of t) → 2 * number_of t + 1 < 16384
+halves_fit t h = omega (arith, end_twice (order_of t), end_bound (order_of t) t.order.high)
 
 not_half : (i x : ℕ) → (x ≡ 2 * i → ⊥) → (x ≡ 2 * i + 1 → ⊥) → x / 2 ≡ i → ⊥
 not_half i x a b e = go (halves x)
@@ -70,25 +76,23 @@ rejoin_flags l i lo up = flagged_three l (2 * i) (2 * i + 1) i false false true 
     go x (inr d) (inr f) (inr g) = rw (ne_eqb x i d, ne_eqb x (2 * i + 1) g, ne_eqb x (2 * i) f, ne_eqb (x / 2) i (not_half i x f g)) refl
 
 -- where no flag is set, setting 2 and 3 makes the roots
-pub roots_flags : (l : List Bool) → 4 ≤ length l → ((k : ℕ) → k < length l → flagged l k ≡ false) → flagged (set (set l 2 true) 3 true) ≡ roots
-roots_flags l h none = flagged_three' ∙ fun_ext (λ x. go x (cases_eq x 2) (cases_eq x 3) (cases_lt x (length l)))
+none_set : (n k : ℕ) → flagged (replicate n false) k ≡ false
+none_set n k = go (cases_lt k n)
   where
-    u : length (set l 2 true) ≡ length l
-    u = length-set l 2 true
+    go : (k < n) ⊎ (n ≤ k) → flagged (replicate n false) k ≡ false
+    go (inl h) = get_or-replicate n k false false h
+    go (inr h) = get_or_past (replicate n false) k false (omega (arith, length-replicate n false))
 
-    flagged_three' : flagged (set (set l 2 true) 3 true) ≡ put 3 true (put 2 true (flagged l))
-    flagged_three' = flagged_set (set l 2 true) 3 true (omega (arith, u)) ∙ ap (put 3 true) (flagged_set l 2 true (omega arith))
-
-    go : (x : ℕ) → (x ≡ 2) ⊎ (x ≡ 2 → ⊥) → (x ≡ 3) ⊎ (x ≡ 3 → ⊥) → (x < length l) ⊎ (length l ≤ x) → put 3 true (put 2 true (flagged l)) x ≡ roots x
-    go x (inl e) f g = rw e refl
-    go x (inr d) (inl f) g = rw f refl
-    go x (inr d) (inr f) (inl g) = rw (ne_eqb x 3 f, ne_eqb x 2 d) (none x g)
-    go x (inr d) (inr f) (inr g) = rw (ne_eqb x 3 f, ne_eqb x 2 d) (past_flags l x g)
-
--- one flag more is cleared
-pub clear_more : (l : List Bool) (i : ℕ) → i < length l → ((k : ℕ) → k < i → flagged l k ≡ false) → (k : ℕ) → k < i + 1 → flagged (set l i false) k ≡ false
-clear_more l i h none k lt = ap (λ (P : Triangles). P k) (flagged_set l i false h) ∙ go (cases_eq k i)
+pub roots_flags : (l : List Bool) (n : ℕ) → l ≡ replicate n false → 4 ≤ n → flagged (set (set l 2 true) 3 true) ≡ roots
+roots_flags l n e h = flagged_set (set l 2 true) 3 true (omega (arith, u, v)) ∙ (ap (put 3 true) (flagged_set l 2 true (omega (arith, u))) ∙ fun_ext (λ x. go x (cases_eq x 2) (cases_eq x 3)))
   where
-    go : (k ≡ i) ⊎ (k ≡ i → ⊥) → put i false (flagged l) k ≡ false
-    go (inl e) = rw (eq-eqb k i e) refl
-    go (inr ne) = rw (ne_eqb k i ne) (none k (omega arith))
+    u : length l ≡ n
+    u = ap length e ∙ length-replicate n false
+
+    v : length (set l 2 true) ≡ length l
+    v = length-set l 2 true
+
+    go : (x : ℕ) → (x ≡ 2) ⊎ (x ≡ 2 → ⊥) → (x ≡ 3) ⊎ (x ≡ 3 → ⊥) → put 3 true (put 2 true (flagged l)) x ≡ roots x
+    go x (inl e) f = rw e refl
+    go x (inr d) (inl f) = rw f refl
+    go x (inr d) (inr f) = rw (ne_eqb x 3 f, ne_eqb x 2 d, e) (none_set n x)

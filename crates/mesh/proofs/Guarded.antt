@@ -11,21 +11,23 @@ use Rattle.mesh.specs.Laws.{CrackFreeMesh}
 use Rattle.mesh.specs.Views.{order_of, triangles_of}
 use Rattle.mesh.proofs.Ancestors.{above, above_is, above_le}
 
--- the facts
-pub record Guarded (n : ℕ) (P : Triangles) : Type 0 where
-  pub inside : (i : ℕ) → P i ≡ true → (2 ≤ i) × (i < end n)
-  pub without_hole : Hole n P → ⊥
-  pub without_overlap : Overlap n P → ⊥
-  pub without_crack : Crack n P → ⊥
+-- the facts, as the prover asks for them of a mesh value
+abbrev pub Guarded : ℕ → Triangles → Type 0
+Guarded n P = record {
+  inside : (i : ℕ) → P i ≡ true → (2 ≤ i) × (i < end n);
+  no_hole : Hole n P → ⊥;
+  no_overlap : Overlap n P → ⊥;
+  no_crack : Crack n P → ⊥;
+}
 
 pub guarded : (n : ℕ) (P : Triangles) → CrackFreeMesh n P → Guarded n P
 guarded n P w = record {
   inside = w.is_mesh.triangles;
-  without_hole = λ h.
+  no_hole = λ h.
       let z = w.is_mesh.some_one h.finest h.is_finest in
       both_ways (P z.0) (subst (λ (y : ℕ). P y ≡ false) z.2.1 (h.uncovered z.2.0)) z.1;
-  without_overlap = λ o. o.differ (w.is_mesh.only_one o.finest o.first o.second o.is_finest o.first_present o.second_present o.in_first o.in_second);
-  without_crack = λ k. w.crack_free k.first k.second k.first_present k.second_present k.differ k.point k.corner k.on_edge;
+  no_overlap = λ o. o.differ (w.is_mesh.only_one o.finest o.first o.second o.is_finest o.first_present o.second_present o.in_first o.in_second);
+  no_crack = λ k. w.crack_free k.first k.second k.first_present k.second_present k.differ k.point k.corner k.on_edge;
 }
 
 module _ (n : ℕ) (P : Triangles) (g : Guarded n P) where
@@ -48,36 +50,21 @@ module _ (n : ℕ) (P : Triangles) (g : Guarded n P) where
     where
       go : ((k : ℕ) × (P (above k f) ≡ true)) ⊎ ((k : ℕ) → P (above k f) ≡ false) → (i : ℕ) × (P i ≡ true) × Within f i
       go (inl z) = (above z.0 f, z.1, (z.0, sym (above_is z.0 f)))
-      go (inr none) = absurd (g.without_hole (record { finest = f; is_finest = h; uncovered = λ k. subst (λ (y : ℕ). P y ≡ false) (above_is k f) (none k) }))
+      go (inr none) = absurd (g.no_hole (record { finest = f; is_finest = h; uncovered = λ k. subst (λ (y : ℕ). P y ≡ false) (above_is k f) (none k) }))
 
   only_one : (f i j : ℕ) → IsFinest n f → P i ≡ true → P j ≡ true → Within f i → Within f j → i ≡ j
   only_one f i j h p q a b = go (cases_eq i j)
     where
       go : (i ≡ j) ⊎ (i ≡ j → ⊥) → i ≡ j
       go (inl e) = e
-      go (inr ne) = absurd (g.without_overlap (record { finest = f; is_finest = h; first = i; second = j; differ = ne; first_present = p; second_present = q; in_first = a; in_second = b }))
+      go (inr ne) = absurd (g.no_overlap (record { finest = f; is_finest = h; first = i; second = j; differ = ne; first_present = p; second_present = q; in_first = a; in_second = b }))
 
   pub guarded_whole : CrackFreeMesh n P
   guarded_whole = record {
     is_mesh = record { triangles = g.inside; some_one = some_one; only_one = only_one };
-    crack_free = λ i j p q ne v a b. g.without_crack (record { first = i; second = j; differ = ne; first_present = p; second_present = q; point = v; corner = a; on_edge = b });
+    crack_free = λ i j p q ne v a b. g.no_crack (record { first = i; second = j; differ = ne; first_present = p; second_present = q; point = v; corner = a; on_edge = b });
   }
-
--- the same facts as the prover asks for them of a mesh value with `len` flags
-abbrev pub Carried : ℕ → ℕ → Triangles → Type 0
-Carried len n P = record {
-  room : len ≡ 16384;
-  inside : (i : ℕ) → P i ≡ true → (2 ≤ i) × (i < end n);
-  no_hole : Hole n P → ⊥;
-  no_overlap : Overlap n P → ⊥;
-  no_crack : Crack n P → ⊥;
-}
-
-pub carried : (len n : ℕ) (P : Triangles) → len ≡ 16384 → CrackFreeMesh n P → Carried len n P
-carried len n P e w =
-    let g = guarded n P w in
-    record { room = e; inside = g.inside; no_hole = g.without_hole; no_overlap = g.without_overlap; no_crack = g.without_crack }
 
 -- a mesh value is a crack-free mesh
 pub mesh_value : (m : Mesh) → CrackFreeMesh (order_of m) (triangles_of m)
-mesh_value m = guarded_whole (order_of m) (triangles_of m) (record { inside = m.inside; without_hole = m.no_hole; without_overlap = m.no_overlap; without_crack = m.no_crack })
+mesh_value m = guarded_whole (order_of m) (triangles_of m) (record { inside = m.inside; no_hole = m.no_hole; no_overlap = m.no_overlap; no_crack = m.no_crack })

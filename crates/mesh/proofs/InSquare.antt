@@ -1,13 +1,15 @@
 -- Every corner of a triangle lies in the square: a root's corners are the square's, and a middle lies between.
-use Rattle.std.proofs.Common.{ℕ, zero, suc, ◌/◌, ◌%◌, ◌≤◌, Bool, true, false, eqb, ltb, arith}
+use Rattle.std.proofs.Common.{◌≡◌, ℕ, zero, suc, ◌/◌, ◌%◌, ◌≤◌, Bool, true, false, eqb, ltb, arith}
 use Rattle.bintree.specs.declared.point.Point.{Point}
 use Rattle.bintree.specs.declared.point.Corners.{Corners}
+use Rattle.bintree.specs.declared.triangle.Triangle.{Triangle}
 use Rattle.bintree.specs.Orders.{side}
+use Rattle.bintree.specs.Views.{order_of, number_of}
 use Rattle.bintree.specs.Triangles.{low_half, high_half, root_two, root_three, corners_at, corners}
 
-pub record PointIn (s : ℕ) (p : Point) : Type 0 where
-  pub across : p.x ≤ s
-  pub along : p.y ≤ s
+-- the point lies in the square of side s
+abbrev pub PointIn : ℕ → Point → Type 0
+PointIn s p = record { across : p.x ≤ s; along : p.y ≤ s }
 
 pub record CornersIn (s : ℕ) (t : Corners) : Type 0 where
   pub apex : PointIn s t.apex
@@ -42,3 +44,7 @@ corners_at_in (suc k) s i = go (ltb i 4) (eqb i 2) (eqb (i % 2) 0) (corners_at_i
 pub corners_in : (n i : ℕ) → CornersIn (side n) (corners n i)
 unfolding corners
 corners_in n i = corners_at_in i (side n) i
+
+-- the corners that the code has of a triangle
+pub placed : (t : Triangle) (n : ℕ) (x : Corners) → n ≡ order_of t → x ≡ corners (order_of t) (number_of t) → CornersIn (side n) x
+placed t n x o e = rw (o, e) (corners_in (order_of t) (number_of t))

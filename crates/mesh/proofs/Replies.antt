@@ -1,6 +1,9 @@
 -- What the one-call definitions give, case by case, and the flags that a call of the code leaves.
-use Rattle.std.proofs.Common.{◌≡◌, ℕ, ◌≤◌, Bool, true, false, cond, ltb, List, sym, ap, ◌∙◌, arith}
+use Rattle.std.proofs.Common.{◌≡◌, ℕ, ◌≤◌, Bool, true, false, cond, ltb, List, Option, Some, None, MatchOption, sym, ap, ap₂, ◌∙◌, arith}
 use Rattle.std.proofs.lemmas.Bool.{both_ways, and_from, and_left, le-leb, lt-ltb, le-ltb}
+use Rattle.std.specs.Bool.{then_some}
+use Rattle.bintree.specs.declared.triangle.Triangle.{Triangle}
+use Rattle.bintree.specs.Views.{order_of, number_of}
 use Rattle.bintree.specs.Orders.{end, first_finest, is_order, is_triangle}
 use Rattle.bintree.specs.Meshes.{Triangles}
 use Rattle.bintree.specs.Refusals.{Refusal, Reply, given, refused, ordering}
@@ -20,6 +23,18 @@ not_there n i P w f = not_so (P i) (λ p.
 pub no_diamond : (n i : ℕ) (P : Triangles) → is_triangle n i ≡ false → mergeable n i P ≡ false
 unfolding mergeable
 no_diamond n i P f = and_left _ _ f
+
+-- the triangle of a number, if it is one of a mergeable diamond, as the code finds it
+pub diamond_found : (n i : ℕ) (P : Triangles) (o f : Option Triangle) →
+    MatchOption o (is_triangle n i ≡ false) (λ t. (is_triangle n i ≡ true) × (order_of t ≡ n) × (number_of t ≡ i)) →
+    MatchOption o (f ≡ None) (λ t. f ≡ then_some (mergeable (order_of t) (number_of t) P) t) →
+    MatchOption f (mergeable n i P ≡ false) (λ t. (mergeable n i P ≡ true) × (order_of t ≡ n) × (number_of t ≡ i))
+diamond_found n i P None f h e = rw e (no_diamond n i P h)
+diamond_found n i P (Some t) f h e = go (mergeable (order_of t) (number_of t) P) (sym (ap₂ (λ (m j : ℕ). mergeable m j P) h.1 h.2)) e
+  where
+    go : (b : Bool) → mergeable n i P ≡ b → f ≡ then_some b t → MatchOption f (mergeable n i P ≡ false) (λ t. (mergeable n i P ≡ true) × (order_of t ≡ n) × (number_of t ≡ i))
+    go true m e = rw e (m, h.1, h.2)
+    go false m e = rw e m
 
 -- refusals
 pub split_absent : (n i : ℕ) (P : Triangles) → P i ≡ false → refuses (state n P) (absent i) ≡ split_call (state n P) i

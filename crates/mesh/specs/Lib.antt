@@ -1,4 +1,5 @@
 pub mod Invariant
+pub mod TriangleSet
 pub mod Sets
 pub mod Faults
 pub mod Calls

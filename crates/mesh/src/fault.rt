@@ -1,5 +1,9 @@
+// Why a call on a mesh is refused. What a fault prints is its refusal: the number, and the values.
+use std::error::Error;
+use std::fmt;
+
 // Why a split was refused, with the triangle's number.
-#[derive(Clone, Copy, Debug)]
+#[derive(Clone, Copy, PartialEq, Eq, Debug)]
 pub enum SplitFault {
     // refusal 11: not present
     Absent(u32),
@@ -8,13 +12,40 @@ pub enum SplitFault {
 }
 
 // Refusal 13: the triangle is not one of a mergeable diamond.
-#[derive(Clone, Copy, Debug)]
+#[derive(Clone, Copy, PartialEq, Eq, Debug)]
 pub struct MergeFault {
     pub triangle: u32,
 }
 
 // Refusal 16: the buffer has fewer places than these.
-#[derive(Clone, Copy, Debug)]
+#[derive(Clone, Copy, PartialEq, Eq, Debug)]
 pub struct ListFault {
     pub places: usize,
 }
+
+impl fmt::Display for SplitFault {
+    fn fmt<W: fmt::Write>(&self, f: &mut fmt::Formatter<W>) -> fmt::Result {
+        match self {
+            SplitFault::Absent(i) => write!(f, "refused 11 triangle {i}"),
+            SplitFault::Finest(i) => write!(f, "refused 12 triangle {i}"),
+        }
+    }
+}
+
+impl fmt::Display for MergeFault {
+    fn fmt<W: fmt::Write>(&self, f: &mut fmt::Formatter<W>) -> fmt::Result {
+        write!(f, "refused 13 triangle {}", self.triangle)
+    }
+}
+
+impl fmt::Display for ListFault {
+    fn fmt<W: fmt::Write>(&self, f: &mut fmt::Formatter<W>) -> fmt::Result {
+        write!(f, "refused 16 places {}", self.places)
+    }
+}
+
+impl Error for SplitFault {}
+
+impl Error for MergeFault {}
+
+impl Error for ListFault {}

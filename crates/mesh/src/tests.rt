@@ -8,9 +8,7 @@ use std::test::Fail;
 // The mesh has just these triangles.
 fn shows(rt: &impl Abort, mesh: &Mesh, expected: &[u32]) {
     assert_eq!(rt; mesh.count(), expected.len());
-    for i in expected {
-        assert!(rt; mesh.contains(*i));
-    }
+    assert!(rt; expected.iter().all(|i| mesh.contains(*i)));
 }
 
 fn split_all(mesh: &mut Mesh, numbers: &[u32]) -> Result<(), SplitFault> {
@@ -42,14 +40,10 @@ fn forces_a_chain_from_level_eleven_to_level_one(rt: HostRuntime) -> Result<(), 
     )?;
     assert_eq!(rt; mesh.count(), 40);
     let chain = [5444, 2723, 1360, 681, 427, 212, 107, 52, 27, 12, 7];
-    for i in chain {
-        assert!(rt; mesh.contains(i));
-    }
+    assert!(rt; chain.iter().all(|i| mesh.contains(*i)));
     mesh.split(5444)?;
     assert_eq!(rt; mesh.count(), 61);
-    for i in chain {
-        assert!(rt; !mesh.contains(i));
-    }
+    assert!(rt; !chain.iter().any(|i| mesh.contains(*i)));
     Ok(())
 }
 
@@ -76,11 +70,11 @@ fn refuses(rt: HostRuntime) -> Result<(), Fail> {
     assert!(rt; matches!(mesh.reset(0), Err(OrderFault { order: 0 })));
     assert!(rt; matches!(mesh.reset(7), Err(OrderFault { order: 7 })));
     for i in [0, 1, 4, 10, 16, 4294967295] {
-        assert!(rt; matches!(mesh.split(i), Err(SplitFault::Absent(j)) if j == i));
+        assert_eq!(rt; mesh.split(i), Err(SplitFault::Absent(i)));
     }
-    assert!(rt; matches!(mesh.split(8), Err(SplitFault::Finest(8))));
+    assert_eq!(rt; mesh.split(8), Err(SplitFault::Finest(8)));
     for i in [0, 1, 2, 3, 5, 8, 16, 4294967295] {
-        assert!(rt; matches!(mesh.merge(i), Err(MergeFault { triangle }) if triangle == i));
+        assert_eq!(rt; mesh.merge(i), Err(MergeFault { triangle: i }));
     }
     shows(&rt, &mesh, &[5, 6, 7, 8, 9]);
     Ok(())
@@ -93,10 +87,33 @@ fn lists_at_exact_short_and_long_buffers(rt: HostRuntime) -> Result<(), Fail> {
     assert_eq!(rt; mesh.index_list(&mut exact)?, 2);
     assert_eq!(rt; exact, [0, 2, 6, 8, 6, 2]);
     let mut short = [9u16; 5];
-    assert!(rt; matches!(mesh.index_list(&mut short), Err(ListFault { places: 6 })));
+    assert_eq!(rt; mesh.index_list(&mut short), Err(ListFault { places: 6 }));
     assert_eq!(rt; short, [9, 9, 9, 9, 9]);
     let mut long = [9u16; 8];
     assert_eq!(rt; mesh.index_list(&mut long)?, 2);
     assert_eq!(rt; long, [0, 2, 6, 8, 6, 2, 9, 9]);
+    Ok(())
+}
+
+// What the program prints of a refusal.
+#[test]
+fn faults_print_their_refusals(rt: HostRuntime) -> Result<(), Fail> {
+    let alloc = rt.alloc();
+    assert_eq!(rt;
+        format!(in alloc; "{}", SplitFault::Absent(4))?.as_str(),
+        "refused 11 triangle 4"
+    );
+    assert_eq!(rt;
+        format!(in alloc; "{}", SplitFault::Finest(8))?.as_str(),
+        "refused 12 triangle 8"
+    );
+    assert_eq!(rt;
+        format!(in alloc; "{}", MergeFault { triangle: 5 })?.as_str(),
+        "refused 13 triangle 5"
+    );
+    assert_eq!(rt;
+        format!(in alloc; "{}", ListFault { places: 6 })?.as_str(),
+        "refused 16 places 6"
+    );
     Ok(())
 }

@@ -7,13 +7,11 @@ ghost use Rattle.mesh.specs.Laws.{RunsSound, SplitLaws, MergeLaws};
 ghost use Rattle.mesh.specs.Views.{order_of, triangles_of, state_of};
 
 use crate::fault::{MergeFault, SplitFault};
-use crate::mesh::{Mesh, flags};
+use crate::mesh::Mesh;
+use crate::mesh::triangle_set::TriangleSet;
 use bintree::fault::OrderFault;
 use bintree::order::Order;
 use std::alloc::{AllocError, Global};
-
-// How many flags a mesh has: as many as order 6, the greatest, has triangle numbers.
-const FLAGS: usize = 16384;
 
 impl Mesh {
     // A new mesh: order 1, and the triangles 2 and 3. All the memory that a mesh ever needs is taken here.
@@ -21,11 +19,8 @@ impl Mesh {
         ensures made { IfOk result (λ m. state_of m ≡ new_mesh) }
         ensures runs { RunsSound }
     {
-        let mut present = vec![in heap; false; FLAGS]?;
-        flags::make_roots(present.as_mut_slice());
-        let Ok(order) = Order::new(1) else {
-            unreachable()
-        };
+        let present = TriangleSet::new(heap)?;
+        let order = Order::new(1).unwrap();
         Ok(Mesh { order, present })
     }
 
@@ -33,9 +28,8 @@ impl Mesh {
     pub fn reset(&mut self, order: u8) -> Result<(), OrderFault>
         ensures { outcome (told (λ _. done) order_refusal result) (state_of self.new) ≡ reset_call (state_of self.old) order }
     {
-        let order = Order::new(order)?;
-        flags::make_roots(self.present.as_mut_slice());
-        self.order = order;
+        self.order = Order::new(order)?;
+        self.present.reset();
         Ok(())
     }
 
@@ -44,16 +38,11 @@ impl Mesh {
         ensures gives { outcome (told (λ _. done) split_refusal result) (state_of self.new) ≡ split_call (state_of self.old) i }
         ensures laws { is_ok result ≡ true → SplitLaws (order_of self.old) i (triangles_of self.old) (triangles_of self.new) }
     {
-        let Some(t) = self.order.triangle(i) else {
-            return Err(SplitFault::Absent(i));
-        };
-        if !flags::has(self.present.as_slice(), i) {
-            return Err(SplitFault::Absent(i));
-        }
+        let t = self.triangle(i).ok_or(SplitFault::Absent(i))?;
         if i >= self.order.first_finest() {
             return Err(SplitFault::Finest(i));
         }
-        flags::split_forced(self.present.as_mut_slice(), t);
+        self.present.split_forced(t);
         Ok(())
     }
 
@@ -62,13 +51,8 @@ impl Mesh {
         ensures gives { outcome (told (λ _. done) merge_refusal result) (state_of self.new) ≡ merge_call (state_of self.old) i }
         ensures laws { is_ok result ≡ true → MergeLaws (order_of self.old) i (triangles_of self.old) (triangles_of self.new) }
     {
-        let Some(t) = self.order.triangle(i) else {
-            return Err(MergeFault { triangle: i });
-        };
-        if !flags::can_merge(self.present.as_slice(), t) {
-            return Err(MergeFault { triangle: i });
-        }
-        flags::merge(self.present.as_mut_slice(), t);
+        let t = self.mergeable(i).ok_or(MergeFault { triangle: i })?;
+        self.present.merge(t);
         Ok(())
     }
 }

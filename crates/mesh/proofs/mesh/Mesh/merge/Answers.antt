@@ -1,59 +1,33 @@
-use Rattle.std.proofs.Common.{◌≡◌, ℕ, Bool, true, false, List, sym, refl, ap, ◌∙◌, subst, arith}
-use Rattle.std.proofs.lemmas.List.{with_items_is}
-use Rattle.std.proofs.lemmas.Bool.{both_ways}
+use Rattle.std.proofs.Common.{◌≡◌, sym, ap, ◌∙◌, subst, arith}
+use Rattle.std.proofs.lemmas.Result.{err_from_is_err_and}
 use Rattle.bintree.specs.Meshes.{Triangles}
 use Rattle.bintree.specs.Orders.{first_finest}
-use Rattle.bintree.proofs.Sizes.{end_bound}
-use Rattle.mesh.specs.Invariant.{flagged}
-use Rattle.mesh.specs.Sets.{mergeable, merge}
 use Rattle.mesh.specs.Calls.{state, leaves}
 use Rattle.mesh.specs.Laws.{MergeLaws}
 use Rattle.mesh.specs.Views.{order_of, triangles_of}
-use Rattle.mesh.proofs.Guarded.{Carried, carried, mesh_value}
+use Rattle.mesh.proofs.Guarded.{Guarded, guarded, mesh_value}
 use Rattle.mesh.proofs.Theorems.{merge_goes, merges_undo, merges_splittable}
-use Rattle.mesh.proofs.Replies.{no_diamond, merge_refused, changed}
+use Rattle.mesh.proofs.Replies.{merge_refused}
 use Rattle.mesh.proofs.mesh.Mesh.merge.Goals as goal
 
--- the test that the code made is the test of this mesh
-tested : (n i m j : ℕ) (items slice : List Bool) (b : Bool) → m ≡ n → j ≡ i → slice ≡ items → b ≡ mergeable m j (flagged slice) → mergeable n i (flagged items) ≡ b
-tested n i m j items slice b em ej es e =
-    sym (e ∙ (ap (λ (k : ℕ). mergeable k j (flagged slice)) em ∙ (ap (λ (k : ℕ). mergeable n k (flagged slice)) ej ∙ ap (λ (l : List Bool). mergeable n i (flagged l)) es)))
-
-pub returns-in_default : goal.returns-in_default
-returns-in_default c =
+pub returns-in_err-t-clause-gives : goal.returns-in_err-t-clause-gives
+returns-in_err-t-clause-gives c =
     let m = c.args.self.now in
-    record {
-      gives = merge_refused (order_of m) c.args.i (triangles_of m) (no_diamond (order_of m) c.args.i (triangles_of m) c.in_default.ensures);
-      laws = λ e. absurd (both_ways false refl e);
-    }
-
-pub returns-then-not-can_merge : goal.returns-then-not-can_merge
-returns-then-not-can_merge c =
-    let m = c.args.self.now in
-    let q = c.in-Some.ensures in
-    record {
-      gives = merge_refused (order_of m) c.args.i (triangles_of m) (tested _ _ _ _ _ _ false q.1 q.2 c.as_slice.ensures.value c.if-not-can_merge.ensures);
-      laws = λ e. absurd (both_ways false refl e);
-    }
+    let p = err_from_is_err_and c.from_residual.result c.from_residual.ensures.1 in
+    let q : c.in_err-t.field-0.0 ≡ record { triangle = c.args.i } = cc (rw c.in_err-t.ensures.ok_part at c.in_err-t.ensures.value) in
+    rw (p.1, p.2, q) (merge_refused (order_of m) c.args.i (triangles_of m) (rw c.in_err-t.ensures.ok_part at c.mergeable.ensures))
 
 pub merge-requires : goal.merge-requires
 merge-requires c =
     let m = c.args.self.now in
-    let q = c.in-Some.ensures in
-    let can : mergeable (order_of m) c.args.i (triangles_of m) ≡ true = tested _ _ _ _ _ _ true q.1 q.2 c.as_slice.ensures.value c.if-not-can_merge.ensures in
-    record {
-      room = omega (arith, end_bound c.in-Some.t.order.n c.in-Some.t.order.high, c.as_mut_slice.ensures.len, m.room);
-      splittable = omega (arith, merges_splittable (order_of m) c.args.i (triangles_of m) (mesh_value m) can, q.2, ap first_finest q.1);
-    }
+    let t = rw c.in_ok-t.ensures.ok_part at c.mergeable.ensures in
+    record { splittable = omega (arith, merges_splittable (order_of m) c.args.i (triangles_of m) (mesh_value m) t.0, t.2, ap first_finest t.1) }
 
 pub invariant_of-self : goal.invariant_of-self
 invariant_of-self c =
     let m = c.args.self.now in
-    let q = c.in-Some.ensures in
-    let can : mergeable (order_of m) c.args.i (triangles_of m) ≡ true = tested _ _ _ _ _ _ true q.1 q.2 c.as_slice.ensures.value c.if-not-can_merge.ensures in
-    let e = with_items_is m.present c.merge.new.present (omega (arith, c.merge.auto.present, c.as_mut_slice.ensures.len)) in
-    let Q_is = changed merge (order_of m) c.args.i _ _ _ _ c.merge.new.present _ q.1 q.2 c.as_mut_slice.ensures.value c.merge.ensures e in
-    subst (Carried m.present.len (order_of m)) (sym Q_is) (carried m.present.len (order_of m) _ m.room (merges_undo (order_of m) c.args.i (triangles_of m) (mesh_value m) can).mesh)
+    let t = rw c.in_ok-t.ensures.ok_part at c.mergeable.ensures in
+    subst (Guarded (order_of m)) (sym (rw (t.1, t.2) at c.merge.ensures)) (guarded (order_of m) _ (merges_undo (order_of m) c.args.i (triangles_of m) (mesh_value m) t.0).mesh)
 
 pub returns : goal.returns
 returns c =
@@ -61,11 +35,9 @@ returns c =
     let n = order_of m in
     let i = c.args.i in
     let P = triangles_of m in
-    let q = c.in-Some.ensures in
-    let can : mergeable (order_of m) c.args.i (triangles_of m) ≡ true = tested _ _ _ _ _ _ true q.1 q.2 c.as_slice.ensures.value c.if-not-can_merge.ensures in
-    let e = with_items_is m.present c.merge.new.present (omega (arith, c.merge.auto.present, c.as_mut_slice.ensures.len)) in
-    let Q_is = changed merge n i _ _ _ _ c.merge.new.present _ q.1 q.2 c.as_mut_slice.ensures.value c.merge.ensures e in
+    let t = rw c.in_ok-t.ensures.ok_part at c.mergeable.ensures in
+    let is = rw (t.1, t.2) at c.merge.ensures in
     record {
-      gives = ap (λ (Q : Triangles). leaves (state n Q)) Q_is ∙ sym (merge_goes n i P can);
-      laws = λ _. subst (MergeLaws n i P) (sym Q_is) (merges_undo n i P (mesh_value m) can);
+      gives = ap (λ (Q : Triangles). leaves (state n Q)) is ∙ sym (merge_goes n i P t.0);
+      laws = λ _. subst (MergeLaws n i P) (sym is) (merges_undo n i P (mesh_value m) t.0);
     }
