@@ -1,45 +1,17 @@
 -- Diamonds as the code finds them: by the partner's number, 0 for none.
-use Rattle.std.proofs.Common.{◌≡◌, ℕ, ◌/◌, ◌<◌, ◌≤◌, Bool, true, false, ◌&&◌, ◌||◌, eqb, ◌⊎◌, Some, None, Option, sym, refl, ap, ◌∙◌, subst, inl, inr, arith, MatchOption, IsTrue}
-use Rattle.std.proofs.lemmas.Bool.{cases_lt, both_ways, and_from, eq-eqb, ne_eqb, le-leb, lt-ltb}
+use Rattle.std.proofs.Common.{◌≡◌, ℕ, ◌/◌, ◌<◌, ◌≤◌, Bool, true, false, ◌&&◌, ◌||◌, eqb, Some, None, Option, sym, refl, ap, ◌∙◌, subst, arith, MatchOption, IsTrue}
+use Rattle.std.proofs.lemmas.Bool.{and_from, eq-eqb, ne_eqb, le-leb, lt-ltb}
 use Rattle.bintree.specs.declared.triangle.Triangle.{Triangle}
 use Rattle.bintree.specs.Orders.{end, first_finest, is_triangle}
-use Rattle.bintree.specs.Views.{order_of, number_of}
+use Rattle.bintree.specs.Views.{order_of, number_of, Is}
 use Rattle.bintree.specs.Triangles.{partner}
 use Rattle.bintree.specs.Meshes.{Triangles}
-use Rattle.bintree.proofs.Partners.{partners_true, partner_laws}
 use Rattle.mesh.specs.Sets.{holder, rejoin, halves_in, mergeable, merge}
 use Rattle.mesh.specs.Laws.{CrackFreeMesh, Holds}
 use Rattle.mesh.proofs.Square.{square_lawful}
 use Rattle.mesh.proofs.Moves.{no_partner, some_partner}
 use Rattle.mesh.proofs.Theorems.{splits_least}
 use Rattle.mesh.proofs.Unrolled.{Parent, the_parent}
-
--- a partner is a triangle, so a number that is none says that there is no partner
-pub partner_triangle : (n i : ℕ) → 0 < partner n i → (2 ≤ partner n i) × (partner n i < end n)
-partner_triangle n i p = let q = partners_true n i (partner n i) ((partner_laws n i).partnered p) in (q.2, q.3)
-
-is_partner : (n i p : ℕ) → p ≡ partner n i → is_triangle n p ≡ true → 0 < partner n i
-is_partner n i p e t = go (cases_lt 0 (partner n i))
-  where
-    go : (0 < partner n i) ⊎ (partner n i ≤ 0) → 0 < partner n i
-    go (inl h) = h
-    go (inr h) = let z : p ≡ 0 = omega arith in absurd (both_ways (is_triangle n p) (ap (is_triangle n) z) t)
-
-lacks_partner : (n i p : ℕ) → p ≡ partner n i → is_triangle n p ≡ false → partner n i ≡ 0
-lacks_partner n i p e f = go (cases_lt 0 (partner n i))
-  where
-    go : (0 < partner n i) ⊎ (partner n i ≤ 0) → partner n i ≡ 0
-    go (inl h) =
-        let r = partner_triangle n i h in
-        absurd (both_ways (is_triangle n p) f (subst (λ (y : ℕ). is_triangle n y ≡ true) (sym e) (and_from _ _ (le-leb 2 (partner n i) r.0) (lt-ltb (partner n i) (end n) r.1))))
-    go (inr h) = omega arith
-
--- so the triangle of the partner's number, if there is one, is the partner
-pub partner_found : (n i m p : ℕ) (r : Option Triangle) → m ≡ n → p ≡ partner n i →
-    MatchOption r (is_triangle m p ≡ false) (λ t. (is_triangle m p ≡ true) × (order_of t ≡ m) × (number_of t ≡ p)) →
-    MatchOption r (partner n i ≡ 0) (λ t. (0 < partner n i) × (order_of t ≡ n) × (number_of t ≡ partner n i))
-partner_found n i m p None e f h = lacks_partner n i p f (subst (λ (k : ℕ). is_triangle k p ≡ false) e h)
-partner_found n i m p (Some t) e f h = (is_partner n i p f (subst (λ (k : ℕ). is_triangle k p ≡ true) e h.0), h.1 ∙ e, h.2 ∙ f)
 
 -- mergeable, from the halves of the one and of the other
 module _ (n i : ℕ) (P : Triangles) (l : 2 ≤ i) (u : i < end n) where
@@ -71,17 +43,17 @@ merge_both n i P p = some_partner (partner n i) _ _ p
 
 -- p is the partner of t
 abbrev pub IsPartner : Triangle → Triangle → Type 0
-IsPartner t p = (0 < partner (order_of t) (number_of t)) × (order_of p ≡ order_of t) × (number_of p ≡ partner (order_of t) (number_of t))
+IsPartner t p = (0 < partner (order_of t) (number_of t)) × Is p (order_of t) (partner (order_of t) (number_of t))
 
 -- the partner of a splittable triangle is splittable
 pub partner_splits : (t p : Triangle) → number_of t < first_finest (order_of t) → IsPartner t p → number_of p < first_finest (order_of p)
-partner_splits t p u q = omega (arith, ap first_finest q.1, q.2, (square_lawful (order_of t)).inside (number_of t) t.low u q.0)
+partner_splits t p u q = omega (arith, ap first_finest q.1.0, q.1.1, (square_lawful (order_of t)).inside (number_of t) t.low u q.0)
 
 -- mergeable, as the code tests it
 pub mergeable_by : (t : Triangle) (P : Triangles) (o : Option Triangle) (b : Bool) → halves_in P (number_of t) ≡ true →
     MatchOption o (partner (order_of t) (number_of t) ≡ 0) (IsPartner t) → MatchOption o (IsTrue b) (λ p. b ≡ halves_in P (number_of p)) → b ≡ mergeable (order_of t) (number_of t) P
 mergeable_by t P None b w m h = h ∙ sym (alone_mergeable (order_of t) (number_of t) P t.low t.high w m)
-mergeable_by t P (Some p) b w m h = h ∙ (ap (halves_in P) m.2 ∙ sym (both_mergeable (order_of t) (number_of t) P t.low t.high w m.0))
+mergeable_by t P (Some p) b w m h = h ∙ (ap (halves_in P) m.1.1 ∙ sym (both_mergeable (order_of t) (number_of t) P t.low t.high w m.0))
 
 -- the parent h of the absent partner p of t holds p, and is split first
 pub record SplitFirst (P : Triangles) (t h : Triangle) : Type 0 where
@@ -94,13 +66,13 @@ module _ (t p : Triangle) (P : Triangles) (w : CrackFreeMesh (order_of t) P) (th
   up = the_parent (order_of t) P w (number_of t) there u q.0 out
 
   pub partner_low : 4 ≤ number_of p
-  partner_low = omega (arith, up.low, q.2)
+  partner_low = omega (arith, up.low, q.1.1)
 
-  pub split_first : (h : Triangle) → (4 ≤ number_of p) × (order_of h ≡ order_of p) × (number_of h ≡ number_of p / 2) → SplitFirst P t h
+  pub split_first : (h : Triangle) → (4 ≤ number_of p) × Is h (order_of p) (number_of p / 2) → SplitFirst P t h
   split_first h e =
-      let is : number_of h ≡ holder P (partner (order_of t) (number_of t)) = e.2 ∙ (ap (λ (y : ℕ). y / 2) q.2 ∙ sym up.is) in
+      let is : number_of h ≡ holder P (partner (order_of t) (number_of t)) = e.1.1 ∙ (ap (λ (y : ℕ). y / 2) q.1.1 ∙ sym up.is) in
       record {
-        order = e.1 ∙ q.1;
+        order = e.1.0 ∙ q.1.0;
         is = is;
         holds = rw is ((splits_least (order_of t) (number_of t) P w there u).rule.holds q.0 out);
       }

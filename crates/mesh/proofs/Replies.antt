@@ -3,7 +3,7 @@ use Rattle.std.proofs.Common.{◌≡◌, ℕ, ◌≤◌, Bool, true, false, cond
 use Rattle.std.proofs.lemmas.Bool.{both_ways, and_from, and_left, le-leb, lt-ltb, le-ltb}
 use Rattle.std.specs.Bool.{then_some}
 use Rattle.bintree.specs.declared.triangle.Triangle.{Triangle}
-use Rattle.bintree.specs.Views.{order_of, number_of}
+use Rattle.bintree.specs.Views.{order_of, number_of, Is}
 use Rattle.bintree.specs.Orders.{end, first_finest, is_order, is_triangle}
 use Rattle.bintree.specs.Meshes.{Triangles}
 use Rattle.bintree.specs.Refusals.{Refusal, Reply, given, refused, ordering}
@@ -26,14 +26,14 @@ no_diamond n i P f = and_left _ _ f
 
 -- the triangle of a number, if it is one of a mergeable diamond, as the code finds it
 pub diamond_found : (n i : ℕ) (P : Triangles) (o f : Option Triangle) →
-    MatchOption o (is_triangle n i ≡ false) (λ t. (is_triangle n i ≡ true) × (order_of t ≡ n) × (number_of t ≡ i)) →
+    MatchOption o (is_triangle n i ≡ false) (λ t. (is_triangle n i ≡ true) × Is t n i) →
     MatchOption o (f ≡ None) (λ t. f ≡ then_some (mergeable (order_of t) (number_of t) P) t) →
-    MatchOption f (mergeable n i P ≡ false) (λ t. (mergeable n i P ≡ true) × (order_of t ≡ n) × (number_of t ≡ i))
+    MatchOption f (mergeable n i P ≡ false) (λ t. (mergeable n i P ≡ true) × Is t n i)
 diamond_found n i P None f h e = rw e (no_diamond n i P h)
-diamond_found n i P (Some t) f h e = go (mergeable (order_of t) (number_of t) P) (sym (ap₂ (λ (m j : ℕ). mergeable m j P) h.1 h.2)) e
+diamond_found n i P (Some t) f h e = go (mergeable (order_of t) (number_of t) P) (sym (ap₂ (λ (m j : ℕ). mergeable m j P) h.1.0 h.1.1)) e
   where
-    go : (b : Bool) → mergeable n i P ≡ b → f ≡ then_some b t → MatchOption f (mergeable n i P ≡ false) (λ t. (mergeable n i P ≡ true) × (order_of t ≡ n) × (number_of t ≡ i))
-    go true m e = rw e (m, h.1, h.2)
+    go : (b : Bool) → mergeable n i P ≡ b → f ≡ then_some b t → MatchOption f (mergeable n i P ≡ false) (λ t. (mergeable n i P ≡ true) × Is t n i)
+    go true m e = rw e (m, h.1)
     go false m e = rw e m
 
 -- refusals

@@ -1,9 +1,9 @@
 -- One terrain square as a forest: roots 2 and 3, and the partner of the definition. Its laws come from the trees: the partner is the neighbour across the base.
-use Rattle.std.proofs.Common.{◌≡◌, ℕ, zero, suc, ◌*◌, ◌/◌, ◌^◌, ◌<◌, ◌≤◌, ◌⊎◌, sym, refl, ap, ◌∙◌, inl, inr, arith, pow_pos, pow_mono}
+use Rattle.std.proofs.Common.{◌≡◌, ℕ, zero, suc, ◌*◌, ◌/◌, ◌^◌, ◌<◌, ◌≤◌, ◌⊎◌, sym, refl, ap, ◌∙◌, inl, inr, arith, pow_pos, pow_mono, Some, None, Option}
 use Rattle.bintree.specs.Orders.{first_finest}
 use Rattle.bintree.specs.Triangles.{partner}
 use Rattle.bintree.proofs.Tree.{Node, two, three, lo, hi, num, depth, by_powers}
-use Rattle.bintree.proofs.Around.{Near, none, some, lo?, hi?, around, across_base}
+use Rattle.bintree.proofs.Around.{lo?, hi?, around, across_base}
 use Rattle.bintree.proofs.Numbers.{node, num_node, num_from_two, node_num, at_most, end_twice, first_finest_is, depth_of_splittable, splittable_of_depth}
 use Rattle.bintree.proofs.Partners.{num_near, to_partner, partner_is}
 use Rattle.forest.specs.Forests.{Forest, Lawful}
@@ -19,11 +19,11 @@ first_from_two n = omega (arith, first_finest_is n, pow_pos (2 * n))
 record Across (n i : ℕ) : Type 0 where
   other : Node
   is : partner n i ≡ num other
-  across : (around (node i)).base ≡ some other
+  across : (around (node i)).base ≡ Some other
 
-from_near : (n i : ℕ) (z : Near) → (around (node i)).base ≡ z → partner n i ≡ num_near z → 0 < partner n i → Across n i
-from_near n i none e f p = absurd (omega arith)
-from_near n i (some u) e f p = record { other = u; is = f; across = e }
+from_near : (n i : ℕ) (z : Option Node) → (around (node i)).base ≡ z → partner n i ≡ num_near z → 0 < partner n i → Across n i
+from_near n i None e f p = absurd (omega arith)
+from_near n i (Some u) e f p = record { other = u; is = f; across = e }
 
 across_of : (n i : ℕ) → 2 ≤ i → i < first_finest n → 0 < partner n i → Across n i
 across_of n i l u p = from_near n i (around (node i)).base refl (partner_is n i l (omega (arith, end_twice n))) p
@@ -34,9 +34,9 @@ record Meeting (t u : Node) : Type 0 where
   above_other : Node
   is : num t / 4 ≡ num above
   is_other : num u / 4 ≡ num above_other
-  meet : (above ≡ above_other) ⊎ ((around above).base ≡ some above_other)
+  meet : (above ≡ above_other) ⊎ ((around above).base ≡ Some above_other)
 
-meeting : (t u : Node) → 8 ≤ num t → (around t).base ≡ some u → Meeting t u
+meeting : (t u : Node) → 8 ≤ num t → (around t).base ≡ Some u → Meeting t u
 unfolding num around
 meeting two u h e = absurd (omega arith)
 meeting three u h e = absurd (omega arith)
@@ -52,21 +52,21 @@ meeting (hi (hi g)) u h e =
     record { above = g; above_other = g; is = omega arith; is_other = rw (sym f) (omega arith); meet = inl refl }
 meeting (lo (hi g)) u h e = go (around g).base refl e
   where
-    go : (z : Near) → (around g).base ≡ z → hi? (lo? z) ≡ some u → Meeting (lo (hi g)) u
-    go none q f = let k : ◌≡◌ {A = ℕ} 0 1 = cc in absurd (omega arith)
-    go (some v) q f =
+    go : (z : Option Node) → (around g).base ≡ z → hi? (lo? z) ≡ Some u → Meeting (lo (hi g)) u
+    go None q f = let k : ◌≡◌ {A = ℕ} 0 1 = cc in absurd (omega arith)
+    go (Some v) q f =
         let w : hi (lo v) ≡ u = cc in
         record { above = g; above_other = v; is = omega arith; is_other = rw (sym w) (omega arith); meet = inr q }
 meeting (hi (lo g)) u h e = go (around g).base refl e
   where
-    go : (z : Near) → (around g).base ≡ z → lo? (hi? z) ≡ some u → Meeting (hi (lo g)) u
-    go none q f = let k : ◌≡◌ {A = ℕ} 0 1 = cc in absurd (omega arith)
-    go (some v) q f =
+    go : (z : Option Node) → (around g).base ≡ z → lo? (hi? z) ≡ Some u → Meeting (hi (lo g)) u
+    go None q f = let k : ◌≡◌ {A = ℕ} 0 1 = cc in absurd (omega arith)
+    go (Some v) q f =
         let w : lo (hi v) ≡ u = cc in
         record { above = g; above_other = v; is = omega arith; is_other = rw (sym w) (omega arith); meet = inr q }
 
 module _ (n : ℕ) where
-  partner_of : (t u : Node) → num t < first_finest n → (around t).base ≡ some u → partner n (num t) ≡ num u
+  partner_of : (t u : Node) → num t < first_finest n → (around t).base ≡ Some u → partner n (num t) ≡ num u
   partner_of t u h e =
       partner_is n (num t) (num_from_two t) (omega (arith, end_twice n)) ∙ ap num_near (ap (λ (z : Node). (around z).base) (node_num t) ∙ e)
 
@@ -107,7 +107,7 @@ module _ (n : ℕ) where
         let m = meeting (node i) a.other (omega (arith, num_node i l)) a.across in
         go a m m.meet
       where
-        go : (a : Across n i) (m : Meeting (node i) a.other) → (m.above ≡ m.above_other) ⊎ ((around m.above).base ≡ some m.above_other) →
+        go : (a : Across n i) (m : Meeting (node i) a.other) → (m.above ≡ m.above_other) ⊎ ((around m.above).base ≡ Some m.above_other) →
             (partner n i / 4 ≡ i / 4) ⊎ ((0 < partner n (i / 4)) × (partner n i / 4 ≡ partner n (i / 4)))
         go a m (inl e) =
             let x : num (node i) / 4 ≡ num m.above = m.is in

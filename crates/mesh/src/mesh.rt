@@ -27,7 +27,7 @@ pub struct Mesh {
 
 impl Mesh {
     ghost use Rattle.std.specs.Prelude.{◌≡◌, true, false, MatchOption};
-    ghost use Rattle.bintree.specs.Views.{order_of as triangle_order, number_of};
+    ghost use Rattle.bintree.specs.Views.{Is};
     ghost use Rattle.mesh.specs.Sets.{mergeable as mergeable_in};
     ghost use Rattle.mesh.specs.Views.{order_of, triangles_of};
 
@@ -35,7 +35,7 @@ impl Mesh {
     fn triangle(&self, i: u32) -> Option<Triangle>
         ensures { MatchOption result
             (triangles_of self.now i ≡ false)
-            (λ t. (triangles_of self.now i ≡ true) × (triangle_order t ≡ order_of self.now) × (number_of t ≡ i)) }
+            (λ t. (triangles_of self.now i ≡ true) × Is t (order_of self.now) i) }
     {
         self.order.triangle(i).filter(|_| self.contains(i))
     }
@@ -44,7 +44,7 @@ impl Mesh {
     fn mergeable(&self, i: u32) -> Option<Triangle>
         ensures { MatchOption result
             (mergeable_in (order_of self.now) i (triangles_of self.now) ≡ false)
-            (λ t. (mergeable_in (order_of self.now) i (triangles_of self.now) ≡ true) × (triangle_order t ≡ order_of self.now) × (number_of t ≡ i)) }
+            (λ t. (mergeable_in (order_of self.now) i (triangles_of self.now) ≡ true) × Is t (order_of self.now) i) }
     {
         self.order
             .triangle(i)

@@ -17,15 +17,6 @@ pub struct TriangleSet {
     ghost room: { vec_len flags ≡ 16384 },
 }
 
-// The partner of t, if it has one.
-fn partner_of(t: Triangle) -> Option<Triangle>
-    ensures { MatchOption result
-        (partner (order_of t) (number_of t) ≡ 0)
-        (λ p. (0 < partner (order_of t) (number_of t)) × (order_of p ≡ order_of t) × (number_of p ≡ partner (order_of t) (number_of t))) }
-{
-    t.order().triangle(t.partner())
-}
-
 impl TriangleSet {
     ghost use Rattle.std.specs.Prelude.{◌≡◌, ◌<◌, true, IfOk};
     ghost use Rattle.bintree.specs.Orders.{first_finest};
@@ -98,7 +89,7 @@ impl TriangleSet {
         requires splittable { number_of t < first_finest (order_of t) }
         ensures { triangles_in self.new ≡ split (order_of t) (number_of t) (triangles_in self.old) }
     {
-        if let Some(partner) = partner_of(t) {
+        if let Some(partner) = t.partner() {
             if !self.contains(partner.number()) {
                 self.split_forced(partner.parent().unwrap());
             }
@@ -119,7 +110,7 @@ impl TriangleSet {
     pub(super) fn can_merge(&self, t: Triangle) -> bool
         ensures { result ≡ mergeable (order_of t) (number_of t) (triangles_in self.now) }
     {
-        self.has_halves(t) && partner_of(t).is_none_or(|partner| self.has_halves(partner))
+        self.has_halves(t) && t.partner().is_none_or(|partner| self.has_halves(partner))
     }
 
     // Puts the triangles of the diamond of t back.
@@ -127,7 +118,7 @@ impl TriangleSet {
         requires splittable { number_of t < first_finest (order_of t) }
         ensures { triangles_in self.new ≡ merged (order_of t) (number_of t) (triangles_in self.old) }
     {
-        if let Some(partner) = partner_of(t) {
+        if let Some(partner) = t.partner() {
             self.rejoin(partner);
         }
         self.rejoin(t);

@@ -21,13 +21,13 @@ pub merge-requires : goal.merge-requires
 merge-requires c =
     let m = c.args.self.now in
     let t = rw c.in_ok-t.ensures.ok_part at c.mergeable.ensures in
-    record { splittable = omega (arith, merges_splittable (order_of m) c.args.i (triangles_of m) (mesh_value m) t.0, t.2, ap first_finest t.1) }
+    record { splittable = omega (arith, merges_splittable (order_of m) c.args.i (triangles_of m) (mesh_value m) t.0, t.1.1, ap first_finest t.1.0) }
 
 pub invariant_of-self : goal.invariant_of-self
 invariant_of-self c =
     let m = c.args.self.now in
     let t = rw c.in_ok-t.ensures.ok_part at c.mergeable.ensures in
-    subst (Guarded (order_of m)) (sym (rw (t.1, t.2) at c.merge.ensures)) (guarded (order_of m) _ (merges_undo (order_of m) c.args.i (triangles_of m) (mesh_value m) t.0).mesh)
+    subst (Guarded (order_of m)) (sym (rw (t.1.0, t.1.1) at c.merge.ensures)) (guarded (order_of m) _ (merges_undo (order_of m) c.args.i (triangles_of m) (mesh_value m) t.0).mesh)
 
 pub returns : goal.returns
 returns c =
@@ -36,7 +36,7 @@ returns c =
     let i = c.args.i in
     let P = triangles_of m in
     let t = rw c.in_ok-t.ensures.ok_part at c.mergeable.ensures in
-    let is = rw (t.1, t.2) at c.merge.ensures in
+    let is = rw (t.1.0, t.1.1) at c.merge.ensures in
     record {
       gives = ap (λ (Q : Triangles). leaves (state n Q)) is ∙ sym (merge_goes n i P t.0);
       laws = λ _. subst (MergeLaws n i P) (sym is) (merges_undo n i P (mesh_value m) t.0);

@@ -25,14 +25,14 @@ returns-then-i-first_finest-clause-gives c =
     split_finest (order_of m) c.args.i (triangles_of m) t.0 (omega (arith, c.first_finest.ensures.value))
 
 pub split_forced-requires-clause-whole : goal.split_forced-requires-clause-whole
-split_forced-requires-clause-whole c = let t = rw c.in_ok-t.ensures.ok_part at c.triangle.ensures in rw t.1 (mesh_value c.args.self.now)
+split_forced-requires-clause-whole c = let t = rw c.in_ok-t.ensures.ok_part at c.triangle.ensures in rw t.1.0 (mesh_value c.args.self.now)
 
 pub invariant_of-self : goal.invariant_of-self
 invariant_of-self c =
     let m = c.args.self.now in
     let t = rw c.in_ok-t.ensures.ok_part at c.triangle.ensures in
     let u : c.args.i < first_finest (order_of m) = omega (arith, c.first_finest.ensures.value) in
-    subst (Guarded (order_of m)) (sym (rw (t.1, t.2) at c.split_forced.ensures)) (guarded (order_of m) _ (splits_least (order_of m) c.args.i (triangles_of m) (mesh_value m) t.0 u).least.mesh)
+    subst (Guarded (order_of m)) (sym (rw (t.1.0, t.1.1) at c.split_forced.ensures)) (guarded (order_of m) _ (splits_least (order_of m) c.args.i (triangles_of m) (mesh_value m) t.0 u).least.mesh)
 
 pub returns : goal.returns
 returns c =
@@ -42,7 +42,7 @@ returns c =
     let P = triangles_of m in
     let t = rw c.in_ok-t.ensures.ok_part at c.triangle.ensures in
     let u : i < first_finest n = omega (arith, c.first_finest.ensures.value) in
-    let is = rw (t.1, t.2) at c.split_forced.ensures in
+    let is = rw (t.1.0, t.1.1) at c.split_forced.ensures in
     record {
       gives = ap (λ (Q : Triangles). leaves (state n Q)) is ∙ sym (split_goes n i P t.0 u);
       laws = λ _. subst (SplitLaws n i P) (sym is) (splits_least n i P (mesh_value m) t.0 u);

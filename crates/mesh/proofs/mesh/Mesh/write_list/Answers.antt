@@ -34,7 +34,7 @@ loop-i-preserved c =
     elim c.match-triangle.branch [
       | goal.in-Some w ↦
           let q = w.in-Some.ensures in
-          let wrote : w.copy_from_slice.new.self ≡ vertices n (corners n i) = w.copy_from_slice.ensures.after ∙ (w.vertices.ensures ∙ ap₂ (λ (m j : ℕ). vertices m (corners m j)) q.1 q.2) in
+          let wrote : w.copy_from_slice.new.self ≡ vertices n (corners n i) = w.copy_from_slice.ensures.after ∙ (w.vertices.ensures ∙ ap₂ (λ (m j : ℕ). vertices m (corners m j)) q.1.0 q.1.1) in
           record {
             so_far = omega (arith, w.at-is, count_in P i q.0, c.loop-i.invariant.so_far);
             written = rw (w.at-is, w.places-is, wrote) (take-put_mid c.loop-i.at _ c.loop-i.places (vertices n (corners n i)) (c.loop-i.at + 3) refl fits ∙ (ap (λ (l : List ℕ). l ++ vertices n (corners n i)) c.loop-i.invariant.written ∙ sym (list_more n P i q.0)));

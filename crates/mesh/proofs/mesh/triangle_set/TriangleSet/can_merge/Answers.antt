@@ -8,8 +8,8 @@ use Rattle.mesh.proofs.mesh.triangle_set.TriangleSet.can_merge.Goals as goal
 pub returns-then-has_halves : goal.returns-then-has_halves
 returns-then-has_halves c =
     let P = triangles_in c.args.self.now in
-    let h : MatchOption c.partner_of.result (IsTrue c.is_none_or.result) (λ p. c.is_none_or.result ≡ halves_in P (number_of p)) = search rules in
-    mergeable_by c.args.t P c.partner_of.result _ (sym c.if-has_halves.ensures) c.partner_of.ensures h
+    let h : MatchOption c.partner.result (IsTrue c.is_none_or.result) (λ p. c.is_none_or.result ≡ halves_in P (number_of p)) = search rules in
+    mergeable_by c.args.t P c.partner.result _ (sym c.if-has_halves.ensures) c.partner.ensures.value h
 
 pub returns-else-has_halves : goal.returns-else-has_halves
 returns-else-has_halves c =
