@@ -6,43 +6,99 @@ ghost use Rattle.baked.specs.declared.fault.SectionsFault.TheVariants.{Table as 
 ghost use Rattle.baked.specs.declared.fault.FileFault.TheVariants.{Trailer as TrailerCase, Sections as SectionsCase};
 
 use bintree::fault::OrderFault;
+use std::error::Error;
+use std::fmt;
 use terrain::relief::CoverFault;
 
 // The trailer is none: the file's length (refusal 1), a field that does not hold what it must, by its place in the file (refusal 2), or the
 // order (refusal 3).
-#[derive(Clone, Copy, Debug)]
+#[derive(Clone, Copy, PartialEq, Eq, Debug)]
 pub enum TrailerFault {
     Length(usize),
     Field(usize),
     Order(u8),
 }
 
-#[derive(Clone, Copy, Debug)]
+#[derive(Clone, Copy, PartialEq, Eq, Debug)]
 pub enum SectionName {
     Heights,
     Bounds,
 }
 
 // The table of bounds does not cover the heights: the lowest-numbered triangle whose bound breaks a rule (refusal 6).
-#[derive(Clone, Copy, Debug)]
+#[derive(Clone, Copy, PartialEq, Eq, Debug)]
 pub enum TableFault {
     Uncovered(u32),
 }
 
 // The sections do not lie as they must: a distance that leads to no place for its section (refusal 4), two sections that share a byte
 // (refusal 5), or a fault of the table that they hold.
-#[derive(Clone, Copy, Debug)]
+#[derive(Clone, Copy, PartialEq, Eq, Debug)]
 pub enum SectionsFault {
     Distance(SectionName),
     Overlap,
     Table(TableFault),
 }
 
-#[derive(Clone, Copy, Debug)]
+#[derive(Clone, Copy, PartialEq, Eq, Debug)]
 pub enum FileFault {
     Trailer(TrailerFault),
     Sections(SectionsFault),
 }
+
+impl fmt::Display for TrailerFault {
+    fn fmt<W: fmt::Write>(&self, f: &mut fmt::Formatter<W>) -> fmt::Result {
+        match self {
+            TrailerFault::Length(length) => write!(f, "refused 1 length {length}"),
+            TrailerFault::Field(place) => write!(f, "refused 2 place {place}"),
+            TrailerFault::Order(order) => write!(f, "refused 3 order {order}"),
+        }
+    }
+}
+
+impl fmt::Display for SectionName {
+    fn fmt<W: fmt::Write>(&self, f: &mut fmt::Formatter<W>) -> fmt::Result {
+        match self {
+            SectionName::Heights => write!(f, "heights"),
+            SectionName::Bounds => write!(f, "bounds"),
+        }
+    }
+}
+
+impl fmt::Display for TableFault {
+    fn fmt<W: fmt::Write>(&self, f: &mut fmt::Formatter<W>) -> fmt::Result {
+        match self {
+            TableFault::Uncovered(triangle) => write!(f, "refused 6 triangle {triangle}"),
+        }
+    }
+}
+
+impl fmt::Display for SectionsFault {
+    fn fmt<W: fmt::Write>(&self, f: &mut fmt::Formatter<W>) -> fmt::Result {
+        match self {
+            SectionsFault::Distance(section) => write!(f, "refused 4 section {section}"),
+            SectionsFault::Overlap => write!(f, "refused 5"),
+            SectionsFault::Table(fault) => write!(f, "{fault}"),
+        }
+    }
+}
+
+impl fmt::Display for FileFault {
+    fn fmt<W: fmt::Write>(&self, f: &mut fmt::Formatter<W>) -> fmt::Result {
+        match self {
+            FileFault::Trailer(fault) => write!(f, "{fault}"),
+            FileFault::Sections(fault) => write!(f, "{fault}"),
+        }
+    }
+}
+
+impl Error for TrailerFault {}
+
+impl Error for TableFault {}
+
+impl Error for SectionsFault {}
+
+impl Error for FileFault {}
 
 impl From<OrderFault> for TrailerFault {
     ghost from_gives = { λ e r. r ≡ OrderCase e.order };

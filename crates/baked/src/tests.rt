@@ -26,32 +26,18 @@ const SPREAD: [u8; 60] = [
     19, 0, 0, 0, 45, 0, 0, 0, 1, 1, 0, 0, // trailer
 ];
 
+// A distance that leads to no place for the section.
+const HEIGHTS: SectionsFault = SectionsFault::Distance(SectionName::Heights);
+
+const BOUNDS: SectionsFault = SectionsFault::Distance(SectionName::Bounds);
+
 fn new_map(heap: Global) -> Result<Map, AllocError> {
     Ok(Draft::new(heap)?.measure())
 }
 
-// The number of a refusal and what comes with it.
-fn refusal(fault: FileFault) -> (u32, usize) {
-    match fault {
-        FileFault::Trailer(TrailerFault::Length(length)) => (1, length),
-        FileFault::Trailer(TrailerFault::Field(place)) => (2, place),
-        FileFault::Trailer(TrailerFault::Order(order)) => (3, usize::from(order)),
-        FileFault::Sections(SectionsFault::Distance(SectionName::Heights)) => (4, 1),
-        FileFault::Sections(SectionsFault::Distance(SectionName::Bounds)) => (4, 2),
-        FileFault::Sections(SectionsFault::Overlap) => (5, 0),
-        FileFault::Sections(SectionsFault::Table(TableFault::Uncovered(triangle))) => (
-            6,
-            triangle as usize,
-        ),
-    }
-}
-
-// The refusal of a file's sections; 0 for none.
-fn sections_refusal(file: &[u8]) -> (u32, usize) {
-    match Reader::over(file).sections() {
-        Ok(_) => (0, 0),
-        Err(fault) => refusal(fault),
-    }
+// Why a file's sections are not given out; none where they are.
+fn refusal(file: &[u8]) -> Option<FileFault> {
+    Reader::over(file).sections().err()
 }
 
 fn check_map(rt: &impl Abort, map: &Map) {
@@ -77,51 +63,51 @@ fn sections_in_either_order(rt: HostRuntime) -> Result<(), Fail> {
 
 #[test]
 fn lengths(rt: HostRuntime) -> Result<(), Fail> {
-    for (length, answer) in [
-        (11, (1, 11)),
-        (12, (2, 9)),
-        (65536, (2, 65533)),
-        (65537, (1, 65537)),
+    for (length, fault) in [
+        (11, TrailerFault::Length(11)),
+        (12, TrailerFault::Field(9)),
+        (65536, TrailerFault::Field(65533)),
+        (65537, TrailerFault::Length(65537)),
     ] {
         let file = vec![in rt.alloc(); 0; length]?;
-        assert_eq!(rt; sections_refusal(&file), answer);
+        assert_eq!(rt; refusal(&file), Some(FileFault::Trailer(fault)));
     }
     Ok(())
 }
 
 #[test]
 fn trailers(rt: HostRuntime) {
-    for (order, edition, closing, answer) in [
-        (0, 2, 1, (2, 51)),
-        (0, 1, 1, (2, 52)),
-        (0, 1, 0, (3, 0)),
-        (7, 1, 0, (3, 7)),
-        (2, 1, 0, (4, 1)),
+    for (order, edition, closing, fault) in [
+        (0, 2, 1, FileFault::Trailer(TrailerFault::Field(51))),
+        (0, 1, 1, FileFault::Trailer(TrailerFault::Field(52))),
+        (0, 1, 0, FileFault::Trailer(TrailerFault::Order(0))),
+        (7, 1, 0, FileFault::Trailer(TrailerFault::Order(7))),
+        (2, 1, 0, FileFault::Sections(HEIGHTS)),
     ] {
         let mut file = FILE;
         file[50] = order;
         file[51] = edition;
         file[53] = closing;
-        assert_eq!(rt; sections_refusal(&file), answer);
+        assert_eq!(rt; refusal(&file), Some(fault));
     }
 }
 
 #[test]
 fn distances(rt: HostRuntime) {
-    for (heights, bounds, answer) in [
-        (42, 24, (0, 0)),
-        (18, 42, (0, 0)),
-        (43, 24, (4, 1)),
-        (17, 43, (4, 1)),
-        (42, 23, (4, 2)),
-        (42, 43, (4, 2)),
-        (42, 25, (5, 0)),
-        (19, 42, (5, 0)),
+    for (heights, bounds, fault) in [
+        (42, 24, None),
+        (18, 42, None),
+        (43, 24, Some(HEIGHTS)),
+        (17, 43, Some(HEIGHTS)),
+        (42, 23, Some(BOUNDS)),
+        (42, 43, Some(BOUNDS)),
+        (42, 25, Some(SectionsFault::Overlap)),
+        (19, 42, Some(SectionsFault::Overlap)),
     ] {
         let mut file = FILE;
         file[42] = heights;
         file[46] = bounds;
-        assert_eq!(rt; sections_refusal(&file), answer);
+        assert_eq!(rt; refusal(&file), fault.map(FileFault::Sections));
     }
 }
 
@@ -135,10 +121,11 @@ fn tables(rt: HostRuntime) -> Result<(), Fail> {
         file[18] = low;
         file[21] = high;
         file[26] = four;
-        let Err(fault) = Reader::over(&file).fill(&mut map) else {
-            return Err(Fail::new("the bounds do not cover"));
-        };
-        assert_eq!(rt; refusal(fault), (6, triangle));
+        let fault = SectionsFault::Table(TableFault::Uncovered(triangle));
+        assert_eq!(rt;
+            Reader::over(&file).fill(&mut map),
+            Err(FileFault::Sections(fault))
+        );
         check_map(&rt, &map);
     }
     Ok(())
@@ -160,5 +147,28 @@ fn the_largest(rt: HostRuntime) -> Result<(), Fail> {
     };
     assert_eq!(rt; (file.len(), triangle), (65536, 3754));
     assert_eq!(rt; map.bound(8191), Some(16777215));
+    Ok(())
+}
+
+// Each fault says the number of its refusal and what comes with it; an outer fault says what the inner one does.
+#[test]
+fn texts(rt: HostRuntime) -> Result<(), Fail> {
+    let trailer = FileFault::Trailer;
+    let sections = FileFault::Sections;
+    for (fault, text) in [
+        (trailer(TrailerFault::Length(11)), "refused 1 length 11"),
+        (trailer(TrailerFault::Field(9)), "refused 2 place 9"),
+        (trailer(TrailerFault::Order(9)), "refused 3 order 9"),
+        (sections(HEIGHTS), "refused 4 section heights"),
+        (sections(BOUNDS), "refused 4 section bounds"),
+        (sections(SectionsFault::Overlap), "refused 5"),
+        (
+            sections(SectionsFault::Table(TableFault::Uncovered(17))),
+            "refused 6 triangle 17",
+        ),
+    ] {
+        let told = format!(in rt.alloc(); "{fault}")?;
+        assert_eq!(rt; told.as_str(), text);
+    }
     Ok(())
 }
