@@ -1,8 +1,8 @@
 -- Which files are taken: layer by layer, a test that was passed says what the layout asks, and the other way round.
-use Rattle.std.proofs.Common.{◌≡◌, ℕ, ◌+◌, ◌-◌, ◌*◌, ◌<◌, ◌≤◌, Bool, true, false, cond, ◌||◌, eqb, ltb, leb, ◌⊎◌, List, [], ◌∷◌, length, drop, sym, refl, ap, ◌∙◌, subst, ap₂, inl, inr, ⊎_elim, arith}
+use Rattle.std.proofs.Common.{◌≡◌, ℕ, ◌+◌, ◌-◌, ◌*◌, ◌<◌, ◌≤◌, Bool, true, false, cond, ◌||◌, eqb, ltb, leb, ◌⊎◌, List, [], ◌∷◌, length, take, drop, sym, refl, ap, ◌∙◌, subst, ap₂, inl, inr, ⊎_elim, arith}
 use mathlib.Core.Path.{fun_ext}
 use Rattle.std.proofs.lemmas.Nat.{mul-add-lt}
-use Rattle.std.proofs.lemmas.List.{get_or-take, get_or-drop}
+use Rattle.std.proofs.lemmas.List.{get_or-take, get_or-drop, length-take-le, take-take, drop-take}
 use Rattle.std.proofs.lemmas.Bool.{cases_Bool, and_parts, and_from, and_cases, and_left, and_right, or_parts, or_from, ltb-true, ltb-false, leb-true, le-leb, le-ltb, eqb-true, eq-eqb, cond-true, cond-false}
 use Rattle.bintree.specs.declared.point.Point.{Point}
 use Rattle.bintree.specs.Orders.{side, first_finest, is_order, is_splittable}
@@ -14,7 +14,7 @@ use Rattle.terrain.specs.Filling.{sampled, bounding, described, lowest_breaking,
 use Rattle.terrain.proofs.Fillings.{fill_laws}
 use Rattle.terrain.proofs.Places.{sample_x, sample_y}
 use Rattle.baked.specs.Bytes.{u8_at, u16_at, u32_at, bytes_from}
-use Rattle.baked.specs.Format.{trailer_at, heights_distance, bounds_distance, order_in, edition_at, edition, closing_at, closing, heights_length, bounds_length, heights_held, bounds_held, Part, part, Parts}
+use Rattle.baked.specs.Format.{trailer_at, front_of, heights_distance, bounds_distance, order_in, edition_at, edition, closing_at, closing, heights_length, bounds_length, heights_held, bounds_held, Part, part, Parts}
 use Rattle.baked.specs.Reading.{passed_to, Pointers, reading_trailer, locating, heights_section, bounds_section, share, pairing, reading_sections, reading, reading_table, loading}
 use Rattle.baked.specs.Laws.{Layout, parts, map_in, Holds, FileLaws}
 
@@ -42,7 +42,7 @@ given_same x y e = cc
 module _ (bs : List ℕ) where
   -- the trailer
   abbrev pointers : Pointers
-  pointers = record { heights = heights_distance bs; bounds = bounds_distance bs; order = order_in bs }
+  pointers = record { front = front_of bs; heights = heights_distance bs; bounds = bounds_distance bs; order = order_in bs }
 
   record Trailed : Type 0 where
     long : 12 ≤ length bs
@@ -78,17 +78,31 @@ module _ (bs : List ℕ) where
       ∙ (cond-true (eqb (closing bs) 0) _ _ (eq-eqb (closing bs) 0 k.closing_zero)
       ∙ cond-true (is_order (order_in bs)) _ _ (and_from _ _ (le-leb 1 (order_in bs) k.low) (le-leb (order_in bs) 6 k.high))))
 
-  -- a section
-  located : (w d k : ℕ) (p : Part) → locating w d k bs ≡ given p → (d ≤ trailer_at bs) × (k ≤ d) × (part (trailer_at bs - d) k bs ≡ p)
-  located w d k p e =
-      let a = past (ltb (trailer_at bs) d || ltb d k) (refusal 4 (w ∷ [])) _ p e in
-      let l = or_parts (ltb (trailer_at bs) d) (ltb d k) a.0 in
-      (ltb-false (trailer_at bs) d l.0, ltb-false d k l.1, given_same _ p a.1)
+  -- a section is a part of the file, as it is of the bytes in front of the trailer
+  front_length : length (front_of bs) ≡ trailer_at bs
+  front_length = length-take-le (trailer_at bs) bs (omega arith)
 
-  locating_gives : (w d k h : ℕ) → h + d ≡ trailer_at bs → h + k ≤ trailer_at bs → locating w d k bs ≡ given (part h k bs)
+  in_front : (h p k : ℕ) → p ≡ h → h + k ≤ trailer_at bs → part p k (front_of bs) ≡ part h k bs
+  in_front h p k e l = λ i. record { place = e i; bytes = same i }
+    where
+      same : bytes_from p k (front_of bs) ≡ bytes_from h k bs
+      same =
+          ap₂ (λ q t. bytes_from q k (take t bs)) e (let s : trailer_at bs ≡ h + (trailer_at bs - h) = omega arith in s)
+          ∙ (ap (take k) (drop-take h (trailer_at bs - h) bs) ∙ take-take k (trailer_at bs - h) (drop h bs) (omega arith))
+
+  located : (w d k : ℕ) (p : Part) → locating w d k (front_of bs) ≡ given p → (d ≤ trailer_at bs) × (k ≤ d) × (part (trailer_at bs - d) k bs ≡ p)
+  located w d k p e =
+      let a = past (ltb (length (front_of bs)) d || ltb d k) (refusal 4 (w ∷ [])) _ p e in
+      let l = or_parts (ltb (length (front_of bs)) d) (ltb d k) a.0 in
+      let far : d ≤ trailer_at bs = omega (arith, front_length, ltb-false (length (front_of bs)) d l.0) in
+      let room = ltb-false d k l.1 in
+      (far, room, sym (in_front (trailer_at bs - d) _ k (ap (λ t. t - d) front_length) (omega arith)) ∙ given_same _ p a.1)
+
+  locating_gives : (w d k h : ℕ) → h + d ≡ trailer_at bs → h + k ≤ trailer_at bs → locating w d k (front_of bs) ≡ given (part h k bs)
   locating_gives w d k h s e =
-      cond-false (ltb (trailer_at bs) d || ltb d k) _ _ (or_from _ _ (le-ltb (trailer_at bs) d (omega arith)) (le-ltb d k (omega arith)))
-      ∙ ap (λ (p : ℕ). given (part p k bs)) (let q : trailer_at bs - d ≡ h = omega arith in q)
+      cond-false (ltb (length (front_of bs)) d || ltb d k) _ _
+      (or_from _ _ (le-ltb (length (front_of bs)) d (omega (arith, front_length))) (le-ltb d k (omega arith)))
+      ∙ ap given (in_front h _ k (omega (arith, front_length)) e)
 
   -- both
   share_apart : (p k q m : ℕ) → share p k q m ≡ false → (p + k ≤ q) ⊎ (q + m ≤ p)
@@ -104,9 +118,9 @@ module _ (bs : List ℕ) where
       let n = order_in bs in
       let ph = part h (heights_length n) bs in
       let pb = part b (bounds_length n) bs in
-      ap (λ (r : Reply Pointers). passed_to r (reading_sections bs))
+      ap (λ (r : Reply Pointers). passed_to r reading_sections)
       (trailer_gives (record { long = k.long; short = k.short; edition_one = k.edition_one; closing_zero = k.closing_zero; low = k.low; high = k.high }))
-      ∙ (ap (λ (r : Reply Part). passed_to r (λ x. passed_to (locating bounds_section (bounds_distance bs) (bounds_length n) bs) (λ y. pairing n x y)))
+      ∙ (ap (λ (r : Reply Part). passed_to r (λ x. passed_to (locating bounds_section (bounds_distance bs) (bounds_length n) (front_of bs)) (λ y. pairing n x y)))
       (locating_gives heights_section (heights_distance bs) (heights_length n) h k.heights_start k.heights_end)
       ∙ (ap (λ (r : Reply Part). passed_to r (λ y. pairing n ph y)) (locating_gives bounds_section (bounds_distance bs) (bounds_length n) b k.bounds_start k.bounds_end)
       ∙ cond-false (share h (heights_length n) b (bounds_length n)) _ _ (apart_share h (heights_length n) b (bounds_length n) k.apart)))
@@ -125,11 +139,11 @@ module _ (bs : List ℕ) where
       let db = bounds_distance bs in
       let h = trailer_at bs - dh in
       let b = trailer_at bs - db in
-      let t = through (reading_trailer bs) (reading_sections bs) s e in
+      let t = through (reading_trailer bs) reading_sections s e in
       let k = trailed t.0 t.1 in
-      let x = through (locating heights_section dh (heights_length n) bs) (λ x. passed_to (locating bounds_section db (bounds_length n) bs) (λ y. pairing n x y)) s
-      (ap (reading_sections bs) k.1 ∙ t.2) in
-      let y = through (locating bounds_section db (bounds_length n) bs) (λ y. pairing n x.0 y) s x.2 in
+      let x = through (locating heights_section dh (heights_length n) (front_of bs)) (λ x. passed_to (locating bounds_section db (bounds_length n) (front_of bs)) (λ y. pairing n x y)) s
+      (ap reading_sections k.1 ∙ t.2) in
+      let y = through (locating bounds_section db (bounds_length n) (front_of bs)) (λ y. pairing n x.0 y) s x.2 in
       let lx = located heights_section dh (heights_length n) x.0 x.1 in
       let ly = located bounds_section db (bounds_length n) y.0 y.1 in
       let p = past (share h (heights_length n) b (bounds_length n)) (refusal 5 []) (given (parts bs n h b)) s (ap₂ (pairing n) lx.2 ly.2 ∙ y.2) in
@@ -218,7 +232,3 @@ module _ (bs : List ℕ) where
 
   pub file_laws : FileLaws bs
   file_laws = record { gives = gives; given_out = given_out; takes = takes; taken = taken }
-
--- what loading answers, from what the first two layers answered
-pub by_layers : (bs : List ℕ) (t : Pointers) (s : Reply Parts) → given t ≡ reading_trailer bs → s ≡ reading_sections bs t → passed_to s reading_table ≡ loading bs
-by_layers bs t s p q = ap (λ (r : Reply Parts). passed_to r reading_table) (q ∙ ap (λ (r : Reply Pointers). passed_to r (reading_sections bs)) p)

@@ -5,9 +5,12 @@ use Rattle.terrain.specs.Heights.{Heights}
 use Rattle.terrain.specs.Bounds.{Bounds}
 use Rattle.baked.specs.Bytes.{u8_at, u16_at, u32_at, bytes_from}
 
--- The trailer is the last 12 bytes. This is the place of its first byte, and so the number of the bytes in front of it.
+-- The trailer is the last 12 bytes. This is the place of its first byte, and so the number of the bytes in front of it; then those bytes.
 abbrev pub trailer_at : List ℕ → ℕ
 trailer_at bs = length bs - 12
+
+abbrev pub front_of : List ℕ → List ℕ
+front_of bs = bytes_from 0 (trailer_at bs) bs
 
 -- How far before the trailer's first byte the heights start, and the bounds.
 abbrev pub heights_distance : List ℕ → ℕ

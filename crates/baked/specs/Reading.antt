@@ -4,15 +4,16 @@ use Rattle.bintree.specs.Orders.{is_order}
 use Rattle.bintree.specs.Refusals.{Reply, given, refused, refusal}
 use Rattle.terrain.specs.Grounds.{Ground}
 use Rattle.terrain.specs.Filling.{filling}
-use Rattle.baked.specs.Format.{trailer_at, heights_distance, bounds_distance, order_in, edition_at, edition, closing_at, closing, heights_length, bounds_length, heights_held, bounds_held, Part, part, Parts}
+use Rattle.baked.specs.Format.{front_of, heights_distance, bounds_distance, order_in, edition_at, edition, closing_at, closing, heights_length, bounds_length, heights_held, bounds_held, Part, part, Parts}
 
 -- What the next layer makes of what a layer gives; a refusal stays what it is.
 abbrev pub passed_to : {A B : Type 0} → Reply A → (A → Reply B) → Reply B
 passed_to (given a) next = next a
 passed_to (refused why) next = refused why
 
--- What the trailer says: how far back the heights and the bounds start, and the order.
+-- What the trailer says: how far back from it the heights and the bounds start, and the order. With it go the bytes in front of it.
 pub record Pointers : Type 0 where
+  pub front : List ℕ
   pub heights : ℕ
   pub bounds : ℕ
   pub order : ℕ
@@ -25,16 +26,17 @@ reading_trailer bs =
     (cond (edition bs == 1)
     (cond (closing bs == 0)
     (cond (is_order (order_in bs))
-    (given (record { heights = heights_distance bs; bounds = bounds_distance bs; order = order_in bs }))
+    (given (record { front = front_of bs; heights = heights_distance bs; bounds = bounds_distance bs; order = order_in bs }))
     (refused (refusal 3 (order_in bs ∷ []))))
     (refused (refusal 2 (closing_at bs ∷ []))))
     (refused (refusal 2 (edition_at bs ∷ []))))
 
--- A section of k bytes that starts d bytes before the trailer. Refusal 4, with the section: d passes the bytes in front of the trailer, or is less than k.
+-- A section of k bytes that starts d bytes before the trailer, among the bytes in front of it. Refusal 4, with the section: d passes these bytes, or is
+-- less than k.
 abbrev pub locating : ℕ → ℕ → ℕ → List ℕ → Reply Part
-locating section d k bs =
-    cond (nat_lt (trailer_at bs) d || nat_lt d k) (refused (refusal 4 (section ∷ [])))
-    (given (part (trailer_at bs - d) k bs))
+locating section d k front =
+    cond (nat_lt (length front) d || nat_lt d k) (refused (refusal 4 (section ∷ [])))
+    (given (part (length front - d) k front))
 
 -- In refusal 4 the heights are section 1, the bounds section 2.
 abbrev pub heights_section : ℕ
@@ -54,15 +56,15 @@ pairing n h b =
     (given (record { order = n; heights = h; bounds = b }))
 
 -- The sections: first the heights, then the bounds, then both.
-abbrev pub reading_sections : List ℕ → Pointers → Reply Parts
-reading_sections bs t =
-    passed_to (locating heights_section t.heights (heights_length t.order) bs) (λ h.
-    passed_to (locating bounds_section t.bounds (bounds_length t.order) bs) (λ b.
+abbrev pub reading_sections : Pointers → Reply Parts
+reading_sections t =
+    passed_to (locating heights_section t.heights (heights_length t.order) t.front) (λ h.
+    passed_to (locating bounds_section t.bounds (bounds_length t.order) t.front) (λ b.
     pairing t.order h b))
 
 -- Reading the sections of a file: trailer first, then sections.
 abbrev pub reading : List ℕ → Reply Parts
-reading bs = passed_to (reading_trailer bs) (reading_sections bs)
+reading bs = passed_to (reading_trailer bs) reading_sections
 
 -- The table that the sections hold. Refusal 6, with the lowest-numbered triangle whose bound breaks a rule: the bounds do not cover.
 abbrev pub reading_table : Parts → Reply Ground

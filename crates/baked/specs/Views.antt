@@ -12,9 +12,9 @@ use Rattle.baked.specs.Reading.{Pointers}
 abbrev pub file_of : Reader → List ℕ
 file_of r = r.bytes.now
 
--- What a trailer says.
+-- What a trailer says, and the bytes in front of it.
 abbrev pub trailer_view : Trailer → Pointers
-trailer_view t = record { heights = t.heights; bounds = t.bounds; order = order_value t.order }
+trailer_view t = record { front = t.front.now; heights = t.heights; bounds = t.bounds; order = order_value t.order }
 
 -- A section as a part of the file.
 abbrev pub section_view : Section → Part
@@ -22,4 +22,4 @@ section_view s = record { place = s.place; bytes = s.bytes.now }
 
 -- Both sections, and the order.
 abbrev pub sections_view : Sections → Parts
-sections_view s = record { order = s.order; heights = section_view s.heights; bounds = section_view s.bounds }
+sections_view s = record { order = order_value s.order; heights = section_view s.heights; bounds = section_view s.bounds }
