@@ -1,60 +1,34 @@
 // The words of a script's lines, and what they ask for.
+use crate::refusal::Refusal;
 use bintree::point::Point;
-use std::alloc::{AllocError, Global};
+use std::alloc::Global;
+use std::str::FromStr;
 
-// A call on the library that is answered by one line.
+// What a line asks for: a call on the library, and its arguments as the script wrote them.
 #[derive(Clone, Copy)]
-pub enum Call {
+pub enum Request<'a> {
     Triangle { order: u8, number: u32 },
     Draft { order: u8 },
     Set { point: Point, height: u16 },
     Measure,
     Carve { point: Point, height: u16 },
+    Load { path: &'a str },
     Reset { order: u8 },
     Split { triangle: u32 },
     Merge { triangle: u32 },
-}
-
-// What a line asks for. A blank one is empty or a comment, and gets no answer.
-#[derive(Clone, Copy)]
-pub enum Line<'a> {
-    Blank,
-    Call(Call),
-    Load(&'a str),
     Show,
     List,
-    NotUnderstood,
 }
 
-// Whether a word is a whole number in decimal digits alone: no sign, and no empty word.
-fn is_digits(word: &str) -> bool {
-    for b in word.bytes() {
-        if !b.is_ascii_digit() {
-            return false;
-        }
-    }
-    !word.is_empty()
-}
-
-fn byte(word: &str) -> Option<u8> {
-    if !is_digits(word) {
+// A whole number in decimal digits alone, with no sign.
+fn number<T: FromStr>(word: &str) -> Option<T>
+where
+    T::Err: Drop,
+{
+    if !word.bytes().all(|b| b.is_ascii_digit()) {
         return None;
     }
-    word.parse::<u8>().ok()
-}
-
-fn height(word: &str) -> Option<u16> {
-    if !is_digits(word) {
-        return None;
-    }
-    word.parse::<u16>().ok()
-}
-
-fn number(word: &str) -> Option<u32> {
-    if !is_digits(word) {
-        return None;
-    }
-    word.parse::<u32>().ok()
+    word.parse().ok()
 }
 
 fn point(x: &str, y: &str) -> Option<Point> {
@@ -64,90 +38,56 @@ fn point(x: &str, y: &str) -> Option<Point> {
     })
 }
 
-fn triangle(order: &str, i: &str) -> Option<Call> {
-    Some(Call::Triangle {
-        order: byte(order)?,
-        number: number(i)?,
-    })
-}
-
-fn draft(order: &str) -> Option<Call> {
-    Some(Call::Draft {
-        order: byte(order)?,
-    })
-}
-
-fn set(x: &str, y: &str, z: &str) -> Option<Call> {
-    Some(Call::Set {
-        point: point(x, y)?,
-        height: height(z)?,
-    })
-}
-
-fn carve(x: &str, y: &str, z: &str) -> Option<Call> {
-    Some(Call::Carve {
-        point: point(x, y)?,
-        height: height(z)?,
-    })
-}
-
-fn reset(order: &str) -> Option<Call> {
-    Some(Call::Reset {
-        order: byte(order)?,
-    })
-}
-
-fn split(i: &str) -> Option<Call> {
-    Some(Call::Split {
-        triangle: number(i)?,
-    })
-}
-
-fn merge(i: &str) -> Option<Call> {
-    Some(Call::Merge {
-        triangle: number(i)?,
-    })
-}
-
-fn read_call(words: &[&str]) -> Option<Call> {
-    match words {
-        ["triangle", order, i] => triangle(order, i),
-        ["draft", order] => draft(order),
-        ["set", x, y, z] => set(x, y, z),
-        ["measure"] => Some(Call::Measure),
-        ["carve", x, y, z] => carve(x, y, z),
-        ["reset", order] => reset(order),
-        ["split", i] => split(i),
-        ["merge", i] => merge(i),
-        _ => None,
-    }
-}
-
-fn read_words<'a>(words: &[&'a str]) -> Line<'a> {
-    match words {
-        ["load", path] => Line::Load(path),
-        ["show"] => Line::Show,
-        ["list"] => Line::List,
-        _ => match read_call(words) {
-            Some(call) => Line::Call(call),
-            None => Line::NotUnderstood,
+// What the words of a line ask for; none where they are not understood.
+fn asked<'a>(words: &[&'a str]) -> Option<Request<'a>> {
+    let request = match *words {
+        ["triangle", order, i] => Request::Triangle {
+            order: number(order)?,
+            number: number(i)?,
         },
-    }
+        ["draft", order] => Request::Draft {
+            order: number(order)?,
+        },
+        ["set", x, y, z] => Request::Set {
+            point: point(x, y)?,
+            height: number(z)?,
+        },
+        ["measure"] => Request::Measure,
+        ["carve", x, y, z] => Request::Carve {
+            point: point(x, y)?,
+            height: number(z)?,
+        },
+        ["load", path] => Request::Load { path },
+        ["reset", order] => Request::Reset {
+            order: number(order)?,
+        },
+        ["split", i] => Request::Split {
+            triangle: number(i)?,
+        },
+        ["merge", i] => Request::Merge {
+            triangle: number(i)?,
+        },
+        ["show"] => Request::Show,
+        ["list"] => Request::List,
+        _ => return None,
+    };
+    Some(request)
 }
 
-// Reads a line: words parted by spaces or tabs.
-pub(crate) fn read_line<'a>(heap: Global, line: &'a str) -> Result<Line<'a>, AllocError> {
-    let mut words: Vec<&str> = Vec::new(heap);
-    for word in line.split([' ', '\t']) {
-        if !word.is_empty() {
-            words.push(word)?;
-        }
+// Reads a line, of this number in its script: words parted by spaces or tabs. An empty line asks for nothing, and neither does a comment.
+pub(crate) fn read<'a>(
+    heap: Global,
+    number: usize,
+    line: &'a str,
+) -> Result<Option<Request<'a>>, Refusal<'a>> {
+    let words: Vec<&str> = line
+        .split([' ', '\t'])
+        .filter(|word| !word.is_empty())
+        .collect(heap)?;
+    if words.first().is_none_or(|word| word.starts_with('#')) {
+        return Ok(None);
     }
-    let Some(first) = words.first() else {
-        return Ok(Line::Blank);
-    };
-    if first.starts_with('#') {
-        return Ok(Line::Blank);
-    }
-    Ok(read_words(words.as_slice()))
+    asked(&words)
+        .ok_or(Refusal::NotUnderstood(number))
+        .map(Some)
 }

@@ -6,7 +6,9 @@ mod lines;
 mod refusal;
 mod session;
 
-use crate::lines::{Line, read_line};
+use crate::answer::Answer;
+use crate::lines::read;
+use crate::refusal::Refusal;
 use crate::session::Session;
 use anyhow::anyhow;
 use std::{env, fs, io};
@@ -24,20 +26,27 @@ fn script(rt: &HostRuntime) -> anyhow::Result<String> {
     Ok(fs::read_to_string(rt, path.as_str())?)
 }
 
+// What a line is answered, by its number and its text; nothing where it asks for nothing.
+fn reply<'s, 'a>(
+    rt: &HostRuntime,
+    session: &'s mut Session,
+    number: usize,
+    line: &'a str,
+) -> Result<Option<Answer<'s>>, Refusal<'a>> {
+    match read(rt.alloc(), number, line)? {
+        Some(request) => session.answer(rt, request).map(Some),
+        None => Ok(None),
+    }
+}
+
 fn run(rt: &HostRuntime) -> anyhow::Result<()> {
     let text = script(rt)?;
     let mut session = Session::new(rt.alloc())?;
-    let mut number: usize = 0;
-    for line in text.as_str().lines() {
-        number = number.saturating_add(1);
-        match read_line(rt.alloc(), line) {
-            Ok(Line::Blank) => (),
-            Ok(Line::Call(call)) => rt.println(session.answer(rt.alloc(), call))?,
-            Ok(Line::Load(path)) => session.load(rt, path)?,
-            Ok(Line::Show) => session.show(rt)?,
-            Ok(Line::List) => session.list(rt)?,
-            Ok(Line::NotUnderstood) => println!(rt; "line {number}: not understood")?,
-            Err(_) => println!(rt; "no memory")?,
+    for (number, line) in (1..).zip(text.lines()) {
+        match reply(rt, &mut session, number, line) {
+            Ok(None) => (),
+            Ok(Some(answer)) => rt.println(answer)?,
+            Err(refusal) => rt.println(refusal)?,
         }
     }
     Ok(())
