@@ -55,7 +55,7 @@ fn write_triangle<W: fmt::Write>(f: &mut fmt::Formatter<W>, t: Triangle) -> fmt:
         l.y,
         r.x,
         r.y,
-        t.partner()
+        t.partner().map_or(0, Triangle::number)
     )
 }
 
