@@ -151,12 +151,12 @@ Rows z e y x zs = (p : Point) → p.x < e → (p.y < y) ⊎ ((p.y ≡ y) × (p.x
 
 module _ (z : Heights) (e : ℕ) (small : e ≤ 65) (y : ℕ) where
   -- one sample more
-  pub rows_put : (zs : List ℕ) (x v : ℕ) → x < e → y < 65 → length zs ≡ 4225 → v ≡ z (at x y) → Rows z e y x zs → Rows z e y (x + 1) (set zs (y * 65 + x) v)
-  rows_put zs x v l m long ev f p px pos = ⊎_elim
-      (λ same. let P : Point → Type 0 = λ q. get_or (set zs (y * 65 + x) v) (place q) 0 ≡ z q in
-      let here : y * 65 + x < length zs = omega arith in
-      subst P (sym same) (get_or-set_same zs (y * 65 + x) v 0 here ∙ ev))
-      (λ other. get_or-set_other zs (y * 65 + x) (place p) v 0 (λ q. other (point_eq (omega arith) (omega arith))) ∙ f p px (before other pos))
+  pub rows_put : (zs : List ℕ) (x k v : ℕ) → x < e → y < 65 → length zs ≡ 4225 → k ≡ place (at x y) → v ≡ z (at x y) → Rows z e y x zs → Rows z e y (x + 1) (set zs k v)
+  rows_put zs x k v l m long ek ev f p px pos = ⊎_elim
+      (λ same. let P : Point → Type 0 = λ q. get_or (set zs k v) (place q) 0 ≡ z q in
+      let here : k < length zs = omega arith in
+      subst P (sym same) (ap (λ (j : ℕ). get_or (set zs k v) j 0) (sym ek) ∙ (get_or-set_same zs k v 0 here ∙ ev)))
+      (λ other. get_or-set_other zs k (place p) v 0 (λ q. other (point_eq (omega arith) (omega arith))) ∙ f p px (before other pos))
       (same_or_not p)
     where
       same_or_not : (p : Point) → (p ≡ at x y) ⊎ (p ≡ at x y → ⊥)
