@@ -2,7 +2,7 @@
 -- because a further level of depth changes nothing once the numbers have passed all that can be due.
 use Rattle.std.proofs.Common.{◌≡◌, ℕ, zero, suc, ◌+◌, ◌*◌, ◌^◌, ◌<◌, ◌≤◌, max, Bool, true, false, sym, refl, ap, ◌∙◌, ⊎_elim, mul-le-mul_right, mul_assoc, mul_comm, arith}
 use native.Mathlib.Nat.{pow-succ'}
-use Rattle.std.proofs.lemmas.Bool.{cases_Bool}
+use Rattle.std.proofs.lemmas.Bool.{cases_Bool, false_from_ne_true}
 use Rattle.terrain.specs.Bounds.{Bounds, worked_out}
 
 -- one level down, the numbers double
@@ -26,7 +26,7 @@ module _ (due : ℕ → Bool) (d : ℕ → ℕ) (b : Bounds) where
   -- only numbers below s are due
   module _ (s : ℕ) (below : (i : ℕ) → due i ≡ true → i < s) where
     past : (i : ℕ) → s ≤ i → due i ≡ false
-    past i l = ⊎_elim (λ t. absurd (omega (arith, below i t))) (λ t. t) (cases_Bool (due i))
+    past i l = false_from_ne_true (due i) (λ t. omega (arith, below i t))
 
     -- a further level changes nothing where there are enough
     more_depth : (k i : ℕ) → s ≤ i * 2 ^ k → worked_out due d b (suc k) i ≡ worked_out due d b k i

@@ -1,7 +1,7 @@
 -- What carving one sample does to the bounds. A triangle that does not hold the sample has the offset that it had, since it holds the three samples
 -- that its offset is made of, and its halves do not hold the sample either: so its bound, which is kept, covers as it did, and is measured if it was.
 use Rattle.std.proofs.Common.{◌≡◌, ℕ, ◌+◌, ◌*◌, ◌<◌, ◌≤◌, max, Bool, true, false, eqb, ◌⊎◌, sym, ap, ◌∙◌, subst, inl, inr, ⊎_elim, arith}
-use Rattle.std.proofs.lemmas.Bool.{cases_Bool, cases_eq, both_ways, and_parts, and_from, and_left, and_right, eqb-true, ne_eqb, cond-true, cond-false}
+use Rattle.std.proofs.lemmas.Bool.{cases_Bool, false_from_ne_true, cases_eq, both_ways, and_parts, and_from, and_left, and_right, eqb-true, ne_eqb, cond-true, cond-false}
 use Rattle.bintree.specs.declared.point.Point.{Point}
 use Rattle.bintree.specs.declared.point.Corners.{Corners}
 use Rattle.bintree.specs.Orders.{end, first_finest, is_splittable}
@@ -18,19 +18,21 @@ use Rattle.terrain.proofs.Measuring.{splittable_low, splittable_high, is_split, 
 use Rattle.terrain.proofs.Holding.{held_decides, half_held, base_held}
 use Rattle.terrain.proofs.Highest.{none_passing, highest_is, no_passing}
 
+-- the test whether two points are one
+pub one_point : (p q : Point) → same_point p q ≡ true → p ≡ q
+one_point p q t = let k = and_parts (eqb p.x q.x) (eqb p.y q.y) t in point_eq (eqb-true _ _ k.0) (eqb-true _ _ k.1)
+
 -- one height is put: elsewhere the heights are as they were
 pub put_other : (p : Point) (h : ℕ) (z : Heights) (q : Point) → (q ≡ p → ⊥) → put_height p h z q ≡ z q
 unfolding put_height
-put_other p h z q ne = cond-false (same_point q p) h (z q) (⊎_elim
-    (λ t. let k = and_parts (eqb q.x p.x) (eqb q.y p.y) t in absurd (ne (point_eq (eqb-true _ _ k.0) (eqb-true _ _ k.1))))
-    (λ t. t) (cases_Bool (same_point q p)))
+put_other p h z q ne = cond-false (same_point q p) h (z q) (false_from_ne_true (same_point q p) (λ t. ne (one_point q p t)))
 
 -- the test of a triangle that carving reaches
 pub reached_splittable : (n : ℕ) (p : Point) (i : ℕ) → reached n p i ≡ true → is_splittable n i ≡ true
-reached_splittable n p i t = (and_parts (is_splittable n i) (holds_sample p (corners n i)) t).0
+reached_splittable n p i t = (and_parts _ _ t).0
 
 reached_held : (n : ℕ) (p : Point) (i : ℕ) → reached n p i ≡ true → holds_sample p (corners n i) ≡ true
-reached_held n p i t = (and_parts (is_splittable n i) (holds_sample p (corners n i)) t).1
+reached_held n p i t = (and_parts _ _ t).1
 
 reached_high : (n : ℕ) (p : Point) (i : ℕ) → reached n p i ≡ true → i < first_finest n
 reached_high n p i t = splittable_high n i (reached_splittable n p i t)
@@ -96,8 +98,8 @@ module _ (p : Point) (h : ℕ) (g : Ground) where
   kept : (i : ℕ) → 2 ≤ i → i < first_finest n → held i ≡ false → Kept i
   kept i l k f = record {
     whole = at_not_held i f;
-    low = at_not_held (2 * i) (⊎_elim (λ t. absurd (both_ways _ f (half_held n i p l k (inl t)))) (λ t. t) (cases_Bool (held (2 * i))));
-    high = at_not_held (2 * i + 1) (⊎_elim (λ t. absurd (both_ways _ f (half_held n i p l k (inr t)))) (λ t. t) (cases_Bool (held (2 * i + 1))));
+    low = at_not_held (2 * i) (false_from_ne_true (held (2 * i)) (λ t. both_ways _ f (half_held n i p l k (inl t))));
+    high = at_not_held (2 * i + 1) (false_from_ne_true (held (2 * i + 1)) (λ t. both_ways _ f (half_held n i p l k (inr t))));
     own = same_offset i l k f;
   }
 

@@ -1,7 +1,7 @@
 -- Which triangles are due to be worked out anew. What is due is splittable, and its parent is due with it; so below a triangle that is not due none is.
-use Rattle.std.proofs.Common.{◌≡◌, ℕ, zero, suc, ◌+◌, ◌*◌, ◌/◌, ◌%◌, ◌^◌, ◌<◌, ◌≤◌, true, false, ◌⊎◌, List, Some, None, Option, sym, refl, ap, ◌∙◌, subst, inl, inr, ⊎_elim, div-le_self, div-one, arith}
+use Rattle.std.proofs.Common.{◌≡◌, ℕ, zero, suc, ◌+◌, ◌*◌, ◌/◌, ◌%◌, ◌^◌, ◌<◌, ◌≤◌, true, false, ◌⊎◌, List, Some, None, Option, sym, refl, ap, ◌∙◌, subst, inl, inr, div-le_self, div-one, arith}
 use native.Mathlib.Nat.{div-div-eq-div-mul}
-use Rattle.std.proofs.lemmas.Bool.{cases_Bool, both_ways}
+use Rattle.std.proofs.lemmas.Bool.{false_from_ne_true, both_ways}
 use Rattle.bintree.specs.declared.point.Point.{Point}
 use Rattle.bintree.specs.Orders.{first_finest, is_splittable}
 use Rattle.bintree.specs.Meshes.{Within}
@@ -63,7 +63,7 @@ due_upward around n j p t = go (j % 2) refl
     go (suc m) e = due_parent around n (j / 2) p (omega (arith, q)) (inr (subst (λ (i : ℕ). due around n i ≡ true) (let k : j ≡ 2 * (j / 2) + 1 = omega arith in k) t))
 
 pub finest_not_due : (around : Option Point) (n i : ℕ) → first_finest n ≤ i → due around n i ≡ false
-finest_not_due around n i p = ⊎_elim (λ t. absurd (omega (arith, due_high around n i t))) (λ t. t) (cases_Bool (due around n i))
+finest_not_due around n i p = false_from_ne_true (due around n i) (λ t. omega (arith, due_high around n i t))
 
 -- nothing is due below what is not
 pub none_under : (around : Option Point) (n i : ℕ) → 2 ≤ i → due around n i ≡ false → (k j : ℕ) → j / 2 ^ k ≡ i → due around n j ≡ false
@@ -72,7 +72,7 @@ none_under around n i p f (suc k) j e =
     let u : j / 2 / 2 ^ k ≡ i = sym (halve_again j (j / 2) k refl) ∙ e in
     let l = div-le_self (j / 2) (2 ^ k) in
     let g = none_under around n i p f k (j / 2) u in
-    ⊎_elim (λ t. absurd (both_ways (due around n (j / 2)) g (due_upward around n j (omega arith) t))) (λ t. t) (cases_Bool (due around n j))
+    false_from_ne_true (due around n j) (λ t. both_ways (due around n (j / 2)) g (due_upward around n j (omega arith) t))
 
 -- measuring and carving as what they work out
 pub new_measured : (n : ℕ) (zs bs : List ℕ) → bounds_in n bs ≡ (λ _. 0) → new_bounds None n zs bs ≡ measured n (heights_in n zs)

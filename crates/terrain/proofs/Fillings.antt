@@ -1,8 +1,8 @@
 -- Filling from a source: the map that it describes, the test of its bounds, and why a map is given exactly if they cover.
-use Rattle.std.proofs.Common.{◌≡◌, ℕ, ◌+◌, ◌*◌, ◌<◌, ◌≤◌, max, Bool, true, false, cond, ◌&&◌, ◌||◌, eqb, ltb, leb, ◌⊎◌, List, [], ◌∷◌, length, get_or, set, sym, refl, ap, ◌∙◌, subst, inl, inr, ⊎_elim, arith}
+use Rattle.std.proofs.Common.{◌≡◌, ℕ, ◌+◌, ◌*◌, ◌<◌, ◌≤◌, max, Bool, true, false, cond, ◌&&◌, ◌||◌, eqb, ltb, ◌⊎◌, List, [], ◌∷◌, length, get_or, set, sym, refl, ap, ◌∙◌, subst, inl, inr, ⊎_elim, arith}
 use mathlib.Core.Path.{fun_ext}
 use Rattle.std.proofs.lemmas.List.{get_or-set_same, get_or-set_other}
-use Rattle.std.proofs.lemmas.Bool.{cases_Bool, cases_lt, cases_eq, both_ways, and_parts, and_from, and_left, or_from, or_parts, ltb-true, ltb-false, leb-true, le-leb, lt-leb, lt-ltb, le-ltb, cond-true, cond-false, eq-eqb, ne_eqb, eqb-true}
+use Rattle.std.proofs.lemmas.Bool.{cases_Bool, false_from_ne_true, true_from_ne_false, cases_lt, cases_eq, both_ways, and_left, or_from, or_parts, ltb-false, lt-leb, le-ltb, cond-true, cond-false, eq-eqb, ne_eqb, eqb-true}
 use Rattle.bintree.specs.declared.point.Point.{Point}
 use Rattle.bintree.specs.declared.point.Corners.{Corners}
 use Rattle.bintree.specs.Orders.{side, end, first_finest, is_triangle, is_splittable}
@@ -15,6 +15,7 @@ use Rattle.terrain.specs.Bounds.{Bounds, apart, offset, limit}
 use Rattle.terrain.specs.Grounds.{Ground}
 use Rattle.terrain.specs.Laws.{Covered}
 use Rattle.terrain.specs.Filling.{sampled, bounding, described, least_bound, breaks_rule, lowest_breaking, filling_to, filling, Keeps, FillLaws}
+use Rattle.terrain.proofs.Measuring.{splittable_low, splittable_high, is_split, finest_not_split}
 use Rattle.terrain.proofs.Holding.{corners_in_square}
 use Rattle.terrain.specs.Tables.{place, heights_in, bounds_in}
 use Rattle.terrain.proofs.Highest.{triangle_low, triangle_high, is_tri}
@@ -31,28 +32,18 @@ pub list_sampled : (n : ℕ) (zs : List ℕ) → sampled n (λ p. get_or zs (pla
 unfolding sampled heights_in
 list_sampled n zs = refl
 
-splittable : (n i : ℕ) → 2 ≤ i → i < first_finest n → is_splittable n i ≡ true
-splittable n i p q = and_from _ _ (le-leb 2 i p) (lt-ltb i (first_finest n) q)
-
-not_splittable : (n i : ℕ) → first_finest n ≤ i → is_splittable n i ≡ false
-not_splittable n i q = ⊎_elim
-    (λ t. absurd (omega (arith, ltb-true i (first_finest n) (and_parts (leb 2 i) (ltb i (first_finest n)) t).1)))
-    (λ t. t) (cases_Bool (is_splittable n i))
-
 pub bounding_splittable : (n : ℕ) (b : Bounds) (i : ℕ) → 2 ≤ i → i < first_finest n → bounding n b i ≡ b i
 unfolding bounding
-bounding_splittable n b i p q = cond-true (is_splittable n i) _ _ (splittable n i p q)
+bounding_splittable n b i p q = cond-true (is_splittable n i) _ _ (is_split n i p q)
 
 pub bounding_finest : (n : ℕ) (b : Bounds) (i : ℕ) → first_finest n ≤ i → bounding n b i ≡ 0
 unfolding bounding
-bounding_finest n b i q = cond-false (is_splittable n i) _ _ (not_splittable n i q)
+bounding_finest n b i q = cond-false (is_splittable n i) _ _ (finest_not_split n i q)
 
 bounding_none : (n : ℕ) (b : Bounds) (i : ℕ) → is_triangle n i ≡ false → bounding n b i ≡ 0
 unfolding bounding
-bounding_none n b i t = cond-false (is_splittable n i) _ _ (⊎_elim
-    (λ s. let k = and_parts (leb 2 i) (ltb i (first_finest n)) s in
-    absurd (both_ways (is_triangle n i) t (is_tri n i (leb-true 2 i k.0) (omega (arith, ltb-true i (first_finest n) k.1, end_twice n)))))
-    (λ s. s) (cases_Bool (is_splittable n i)))
+bounding_none n b i t = cond-false (is_splittable n i) _ _ (false_from_ne_true (is_splittable n i) (λ s.
+    both_ways (is_triangle n i) t (is_tri n i (splittable_low n i s) (omega (arith, splittable_high n i s, end_twice n)))))
 
 -- the offset, from what was read at a point c and at the corners t: the base's ends and its centre are samples
 pub offset_read : (n i : ℕ) (z : Heights) (t : Corners) (c : Point) (hc hl hr : ℕ) → t ≡ corners n i → c ≡ centre (corners n i)
@@ -72,7 +63,7 @@ offset_read n i z t c hc hl hr et ec ehc ehl ehr =
 module _ (g : Ground) (i : ℕ) (low : 2 ≤ i) (high : i < first_finest g.order) where
   rule_test : breaks_rule g i ≡ (ltb limit (g.bounds i) || ltb (g.bounds i) (least_bound g i))
   unfolding breaks_rule
-  rule_test = ap (λ (t : Bool). t && (ltb limit (g.bounds i) || ltb (g.bounds i) (least_bound g i))) (splittable g.order i low high)
+  rule_test = ap (λ (t : Bool). t && (ltb limit (g.bounds i) || ltb (g.bounds i) (least_bound g i))) (is_split g.order i low high)
 
   keeps_rule : Keeps g i → breaks_rule g i ≡ false
   keeps_rule k = rule_test ∙ or_from _ _ (le-ltb limit (g.bounds i) k.limited) (le-ltb (g.bounds i) (least_bound g i) k.above)
@@ -83,7 +74,7 @@ module _ (g : Ground) (i : ℕ) (low : 2 ≤ i) (high : i < first_finest g.order
       record { limited = ltb-false _ _ k.0; above = ltb-false _ _ k.1 }
 
   rule_broken : (Keeps g i → ⊥) → breaks_rule g i ≡ true
-  rule_broken f = ⊎_elim (λ t. t) (λ t. absurd (f (rule_kept t))) (cases_Bool (breaks_rule g i))
+  rule_broken f = true_from_ne_false (breaks_rule g i) (λ t. f (rule_kept t))
 
 -- the test from what was read: the bound, those of the halves, and the offset
 pub rule_read : (n : ℕ) (z : Heights) (b : Bounds) (i v low high d : ℕ) → 2 ≤ i → i < first_finest n
@@ -151,12 +142,12 @@ Rows z e y x zs = (p : Point) → p.x < e → (p.y < y) ⊎ ((p.y ≡ y) × (p.x
 
 module _ (z : Heights) (e : ℕ) (small : e ≤ 65) (y : ℕ) where
   -- one sample more
-  pub rows_put : (zs : List ℕ) (x v : ℕ) → x < e → y < 65 → length zs ≡ 4225 → v ≡ z (at x y) → Rows z e y x zs → Rows z e y (x + 1) (set zs (y * 65 + x) v)
-  rows_put zs x v l m long ev f p px pos = ⊎_elim
-      (λ same. let P : Point → Type 0 = λ q. get_or (set zs (y * 65 + x) v) (place q) 0 ≡ z q in
-      let here : y * 65 + x < length zs = omega arith in
-      subst P (sym same) (get_or-set_same zs (y * 65 + x) v 0 here ∙ ev))
-      (λ other. get_or-set_other zs (y * 65 + x) (place p) v 0 (λ q. other (point_eq (omega arith) (omega arith))) ∙ f p px (before other pos))
+  pub rows_put : (zs : List ℕ) (x k v : ℕ) → x < e → y < 65 → length zs ≡ 4225 → k ≡ place (at x y) → v ≡ z (at x y) → Rows z e y x zs → Rows z e y (x + 1) (set zs k v)
+  rows_put zs x k v l m long ek ev f p px pos = ⊎_elim
+      (λ same. let P : Point → Type 0 = λ q. get_or (set zs k v) (place q) 0 ≡ z q in
+      let here : k < length zs = omega arith in
+      subst P (sym same) (ap (λ (j : ℕ). get_or (set zs k v) j 0) (sym ek) ∙ (get_or-set_same zs k v 0 here ∙ ev)))
+      (λ other. get_or-set_other zs k (place p) v 0 (λ q. other (point_eq (omega arith) (omega arith))) ∙ f p px (before other pos))
       (same_or_not p)
     where
       same_or_not : (p : Point) → (p ≡ at x y) ⊎ (p ≡ at x y → ⊥)

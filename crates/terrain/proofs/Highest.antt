@@ -1,6 +1,6 @@
 -- The highest number that passes a test is the one that passes with none above it that does.
-use Rattle.std.proofs.Common.{◌≡◌, ℕ, zero, suc, ◌<◌, ◌≤◌, Bool, true, false, ltb, leb, sym, refl, ◌∙◌, subst, ⊎_elim, eq-or-lt_of_le, arith}
-use Rattle.std.proofs.lemmas.Bool.{cases_Bool, cases_lt, both_ways, and_parts, and_from, leb-true, ltb-true, le-leb, lt-ltb}
+use Rattle.std.proofs.Common.{◌≡◌, ℕ, zero, suc, ◌<◌, ◌≤◌, Bool, true, false, ltb, sym, refl, ◌∙◌, subst, ⊎_elim, eq-or-lt_of_le, arith}
+use Rattle.std.proofs.lemmas.Bool.{cases_Bool, false_from_ne_true, cases_lt, both_ways, and_parts, and_from, leb-true, ltb-true, le-leb, lt-ltb}
 use Rattle.bintree.specs.Orders.{end, is_triangle}
 use Rattle.terrain.specs.Bounds.{Bounds, limit}
 use Rattle.terrain.specs.Carving.{highest, passes_limit, highest_passing}
@@ -38,19 +38,19 @@ module _ (passes : ℕ → Bool) where
 
 -- the test of a triangle
 pub triangle_low : (n i : ℕ) → is_triangle n i ≡ true → 2 ≤ i
-triangle_low n i t = leb-true 2 i (and_parts (leb 2 i) (ltb i (end n)) t).0
+triangle_low n i t = leb-true 2 i (and_parts _ _ t).0
 
 pub triangle_high : (n i : ℕ) → is_triangle n i ≡ true → i < end n
-triangle_high n i t = ltb-true i (end n) (and_parts (leb 2 i) (ltb i (end n)) t).1
+triangle_high n i t = ltb-true i (end n) (and_parts _ _ t).1
 
 pub is_tri : (n i : ℕ) → 2 ≤ i → i < end n → is_triangle n i ≡ true
 is_tri n i p q = and_from _ _ (le-leb 2 i p) (lt-ltb i (end n) q)
 
 module _ (n : ℕ) (b : Bounds) where
   fits : (i : ℕ) → (2 ≤ i → i < end n → b i ≤ limit) → passes_limit n b i ≡ false
-  fits i f = ⊎_elim
-      (λ t. let k = and_parts (is_triangle n i) (ltb limit (b i)) t in absurd (omega (arith, f (triangle_low n i k.0) (triangle_high n i k.0), ltb-true limit (b i) k.1)))
-      (λ t. t) (cases_Bool (passes_limit n b i))
+  fits i f = false_from_ne_true (passes_limit n b i) (λ t.
+      let k = and_parts (is_triangle n i) (ltb limit (b i)) t in
+      omega (arith, f (triangle_low n i k.0) (triangle_high n i k.0), ltb-true limit (b i) k.1))
 
   pub none_passing : ((i : ℕ) → 2 ≤ i → i < end n → b i ≤ limit) → highest_passing n b ≡ 0
   none_passing f = none (passes_limit n b) (end n) (λ i _. fits i (f i))

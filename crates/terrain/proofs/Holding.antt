@@ -1,8 +1,9 @@
 -- Samples and triangles, by number: the test that carving makes is whether the sample lies in the closed triangle; what a half holds, its parent
 -- holds; a splittable triangle holds the three samples that its offset is made of, and all corners are samples; a finest triangle holds nothing
 -- but its corners.
-use Rattle.std.proofs.Common.{◌≡◌, ℕ, ◌+◌, ◌*◌, ◌^◌, ◌<◌, ◌≤◌, Bool, true, false, ◌⊎◌, Decides, sym, refl, ap, subst, subst₂, inl, inr, ⊎_elim, arith}
+use Rattle.std.proofs.Common.{◌≡◌, ℕ, ◌+◌, ◌*◌, ◌^◌, ◌<◌, ◌≤◌, Bool, true, ◌⊎◌, Decides, sym, refl, ap, subst, subst₂, inl, inr, ⊎_elim, arith}
 use native.Mathlib.Nat.{eq_of_mul-eq-mul_left}
+use Rattle.std.proofs.lemmas.Bool.Decides.{same_from_decides}
 use Rattle.bintree.specs.declared.point.Point.{Point}
 use Rattle.bintree.specs.declared.point.Corners.{Corners}
 use Rattle.bintree.specs.Orders.{end, first_finest}
@@ -27,16 +28,10 @@ pub held_decides : (n i : ℕ) (v : Point) → 2 ≤ i → i < end n → Decides
 unfolding holds_sample inside
 held_decides n i v p q = inside_decides n i v (corners n i) (holds_sample v (corners n i)) p q refl refl
 
--- two tests that decide one thing are one
-same_test : {P : Type 0} (r s : Bool) → Decides r P → Decides s P → r ≡ s
-same_test true s d e = sym (e.1 (d.0 refl))
-same_test false true d e = d.1 (e.0 refl)
-same_test false false d e = refl
-
 -- what the call `holds` answers is whether carving reaches the triangle
 pub reached_is : (n i : ℕ) (v : Point) (r : Bool) → 2 ≤ i → i < first_finest n → Decides r (LiesIn v (corners n i)) → r ≡ reached n v i
 reached_is n i v r p q d =
-    let e = same_test r (holds_sample v (corners n i)) d (held_decides n i v p (omega (arith, end_twice n))) in
+    let e = same_from_decides r (holds_sample v (corners n i)) d (held_decides n i v p (omega (arith, end_twice n))) in
     let t = is_split n i p q in
     rw t e
 

@@ -1,7 +1,7 @@
 -- Measured bounds: they cover, no bounds that cover are less, and none passes the limit, because each of at most twelve levels adds no more
 -- than 131,070.
-use Rattle.std.proofs.Common.{◌≡◌, ℕ, ◌+◌, ◌*◌, ◌^◌, ◌<◌, ◌≤◌, max, true, false, ltb, leb, ⊎_elim, mul-le-mul_right, arith}
-use Rattle.std.proofs.lemmas.Bool.{cases_Bool, and_parts, and_from, leb-true, ltb-true, le-leb, lt-ltb}
+use Rattle.std.proofs.Common.{◌≡◌, ℕ, ◌+◌, ◌*◌, ◌^◌, ◌<◌, ◌≤◌, max, true, false, mul-le-mul_right, arith}
+use Rattle.std.proofs.lemmas.Bool.{false_from_ne_true, and_parts, and_from, leb-true, ltb-true, le-leb, lt-ltb}
 use Rattle.bintree.specs.declared.point.Point.{Point}
 use Rattle.bintree.specs.Orders.{end, first_finest, is_splittable}
 use Rattle.bintree.specs.Triangles.{corners, centre}
@@ -14,16 +14,16 @@ use Rattle.terrain.proofs.Anew.{not_due, when_due, at_most, least}
 
 -- the test of a splittable number
 pub splittable_low : (n i : ℕ) → is_splittable n i ≡ true → 2 ≤ i
-splittable_low n i t = leb-true 2 i (and_parts (leb 2 i) (ltb i (first_finest n)) t).0
+splittable_low n i t = leb-true 2 i (and_parts _ _ t).0
 
 pub splittable_high : (n i : ℕ) → is_splittable n i ≡ true → i < first_finest n
-splittable_high n i t = ltb-true i (first_finest n) (and_parts (leb 2 i) (ltb i (first_finest n)) t).1
+splittable_high n i t = ltb-true i (first_finest n) (and_parts _ _ t).1
 
 pub is_split : (n i : ℕ) → 2 ≤ i → i < first_finest n → is_splittable n i ≡ true
 is_split n i p q = and_from _ _ (le-leb 2 i p) (lt-ltb i (first_finest n) q)
 
 pub finest_not_split : (n i : ℕ) → first_finest n ≤ i → is_splittable n i ≡ false
-finest_not_split n i p = ⊎_elim (λ t. absurd (omega (arith, splittable_high n i t))) (λ t. t) (cases_Bool (is_splittable n i))
+finest_not_split n i p = false_from_ne_true (is_splittable n i) (λ t. omega (arith, splittable_high n i t))
 
 -- 2n levels are enough
 pub enough : (n i : ℕ) → 2 ≤ i → first_finest n ≤ i * 2 ^ (2 * n)

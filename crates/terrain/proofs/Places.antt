@@ -1,8 +1,8 @@
 -- Lists as heights and as bounds: what a read and a write at a place mean.
-use Rattle.std.proofs.Common.{◌≡◌, ℕ, ◌^◌, ◌<◌, ◌≤◌, true, false, cond, eqb, leb, ◌≢◌, ◌⊎◌, List, length, get_or, set, replicate, sym, refl, ap, ◌∙◌, subst, inl, inr, ⊎_elim, arith}
+use Rattle.std.proofs.Common.{◌≡◌, ℕ, ◌^◌, ◌<◌, ◌≤◌, true, false, cond, ◌≢◌, ◌⊎◌, List, length, get_or, set, replicate, sym, refl, ap, ◌∙◌, subst, inl, inr, ⊎_elim, arith}
 use mathlib.Core.Path.{fun_ext}
 use Rattle.std.proofs.lemmas.List.{get_or-set_same, get_or-set_other, get_or-replicate, get_or_past, length-replicate}
-use Rattle.std.proofs.lemmas.Bool.{cases_Bool, cases_lt, and_parts, and_from, leb-true, le-leb, eqb-true, eq-eqb, cond-true, cond-false, cond_both, both_ways}
+use Rattle.std.proofs.lemmas.Bool.{cases_Bool, cases_lt, and_parts, and_from, leb-true, le-leb, eq-eqb, cond-true, cond-false, cond_both, both_ways}
 use Rattle.bintree.specs.declared.point.Point.{Point}
 use Rattle.bintree.specs.Orders.{end, is_triangle}
 use Rattle.bintree.specs.Triangles.{same_point}
@@ -11,14 +11,14 @@ use Rattle.bintree.proofs.Shape.{point_eq}
 use Rattle.terrain.specs.Heights.{Heights, is_sample, flat, put_height}
 use Rattle.terrain.specs.Tables.{place, heights_in, bounds_in}
 use Rattle.terrain.proofs.Highest.{is_tri}
-use Rattle.terrain.proofs.Carvings.{put_other}
+use Rattle.terrain.proofs.Carvings.{one_point, put_other}
 
 -- the test of a sample
 pub sample_x : (n : ℕ) (p : Point) → is_sample n p ≡ true → p.x ≤ 2 ^ n
-sample_x n p t = leb-true p.x (2 ^ n) (and_parts (leb p.x (2 ^ n)) (leb p.y (2 ^ n)) t).0
+sample_x n p t = leb-true p.x (2 ^ n) (and_parts _ _ t).0
 
 pub sample_y : (n : ℕ) (p : Point) → is_sample n p ≡ true → p.y ≤ 2 ^ n
-sample_y n p t = leb-true p.y (2 ^ n) (and_parts (leb p.x (2 ^ n)) (leb p.y (2 ^ n)) t).1
+sample_y n p t = leb-true p.y (2 ^ n) (and_parts _ _ t).1
 
 pub in_sample : (n : ℕ) (p : Point) → p.x ≤ 2 ^ n → p.y ≤ 2 ^ n → is_sample n p ≡ true
 in_sample n p x y = and_from _ _ (le-leb p.x (2 ^ n) x) (le-leb p.y (2 ^ n) y)
@@ -53,9 +53,12 @@ pub bounds_blank : (n m : ℕ) → bounds_in n (replicate m 0) ≡ (λ _. 0)
 unfolding bounds_in
 bounds_blank n m = fun_ext (λ i. cond_both (is_triangle n i) (get_or (replicate m 0) i 0) 0 (λ b. b ≡ 0) (λ _. zero_in m i) (λ _. refl))
 
+point_same : (p : Point) → same_point p p ≡ true
+point_same p = and_from _ _ (eq-eqb p.x p.x refl) (eq-eqb p.y p.y refl)
+
 put_here : (p : Point) (h : ℕ) (z : Heights) → put_height p h z p ≡ h
 unfolding put_height
-put_here p h z = cond-true (same_point p p) h (z p) (and_from _ _ (eq-eqb p.x p.x refl) (eq-eqb p.y p.y refl))
+put_here p h z = cond-true (same_point p p) h (z p) (point_same p)
 
 -- two samples have one place only if they are one
 place_apart : (n : ℕ) (p q : Point) → n ≤ 6 → is_sample n p ≡ true → is_sample n q ≡ true → place q ≡ place p → q ≡ p
@@ -73,21 +76,18 @@ heights_set n zs p h at six s long e =
     within : place p < length zs
     within = let k = side_bound n six in let a = sample_x n p s in let b = sample_y n p s in omega arith
 
-    one : (q : Point) → same_point q p ≡ true → q ≡ p
-    one q t = let k = and_parts (eqb q.x p.x) (eqb q.y p.y) t in point_eq (eqb-true _ _ k.0) (eqb-true _ _ k.1)
-
-    two : (q : Point) → same_point q p ≡ false → q ≡ p → ⊥
-    two q f e = both_ways (same_point q p) f (and_from _ _ (eq-eqb _ _ (ap (λ (u : Point). u.x) e)) (eq-eqb _ _ (ap (λ (u : Point). u.y) e)))
+    apart_from : (q : Point) → same_point q p ≡ false → q ≡ p → ⊥
+    apart_from q f e = both_ways (same_point q p) f (subst (λ (u : Point). same_point u p ≡ true) (sym e) (point_same p))
 
     reads : (q : Point) → (is_sample n q ≡ true) ⊎ (is_sample n q ≡ false) → (same_point q p ≡ true) ⊎ (same_point q p ≡ false)
         → heights_in n (set zs (place p) h) q ≡ put_height p h (heights_in n zs) q
     reads q k (inl t) =
         let P : Point → Type 0 = λ u. heights_in n (set zs (place p) h) u ≡ put_height p h (heights_in n zs) u in
-        subst P (sym (one q t)) (height_at n (set zs (place p) h) p s ∙ (get_or-set_same zs (place p) h 0 within ∙ sym (put_here p h (heights_in n zs))))
+        subst P (sym (one_point q p t)) (height_at n (set zs (place p) h) p s ∙ (get_or-set_same zs (place p) h 0 within ∙ sym (put_here p h (heights_in n zs))))
     reads q (inl k) (inr f) =
         height_at n (set zs (place p) h) q k
-        ∙ (get_or-set_other zs (place p) (place q) h 0 (λ e. two q f (place_apart n p q six s k e)) ∙ (sym (height_at n zs q k) ∙ sym (put_other p h (heights_in n zs) q (two q f))))
-    reads q (inr k) (inr f) = height_none n (set zs (place p) h) q k ∙ (sym (height_none n zs q k) ∙ sym (put_other p h (heights_in n zs) q (two q f)))
+        ∙ (get_or-set_other zs (place p) (place q) h 0 (λ e. apart_from q f (place_apart n p q six s k e)) ∙ (sym (height_at n zs q k) ∙ sym (put_other p h (heights_in n zs) q (apart_from q f))))
+    reads q (inr k) (inr f) = height_none n (set zs (place p) h) q k ∙ (sym (height_none n zs q k) ∙ sym (put_other p h (heights_in n zs) q (apart_from q f)))
 
 -- bounds
 pub bound_at : (n : ℕ) (bs : List ℕ) (i : ℕ) → 2 ≤ i → i < end n → bounds_in n bs i ≡ get_or bs i 0

@@ -11,7 +11,7 @@ use Rattle.bintree.specs.Views.{order_value}
 use Rattle.terrain.specs.Heights.{Heights, is_sample, put_height}
 use Rattle.terrain.specs.Bounds.{Bounds, measured}
 use Rattle.terrain.specs.Carving.{carved_bounds, highest_passing}
-use Rattle.terrain.specs.Grounds.{Sketch, Ground, blank, resetting, setting, measuring, carved, carving_to, carving, bound_of, height_of}
+use Rattle.terrain.specs.Grounds.{Sketch, Ground, blank, resetting, setting, measuring, carved, carving_to, carving, bound_of, height_of, left_by}
 use Rattle.terrain.specs.declared.table.Table.{Table}
 use Rattle.terrain.specs.Views.{table_view, sketch_view}
 use Rattle.terrain.specs.Tables.{place, heights_in, bounds_in}
@@ -19,6 +19,10 @@ use Rattle.terrain.specs.Working.{new_bounds}
 use Rattle.terrain.proofs.Highest.{triangle_low, triangle_high}
 use Rattle.terrain.proofs.Due.{new_carved}
 use Rattle.terrain.proofs.Places.{heights_blank, heights_set, height_at, bound_at}
+
+-- what a call leaves follows from what it answers
+pub leaves : {A : Type 0} {r s : Reply A} (before : A) → r ≡ s → left_by r before ≡ left_by s before
+leaves {A} before e = ap (λ (r : Reply A). left_by r before) e
 
 -- the order that making it of n gives is n
 given_order : (n m : ℕ) → given m ≡ ordering n → (is_order n ≡ true) × (m ≡ n)

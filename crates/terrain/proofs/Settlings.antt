@@ -3,7 +3,7 @@
 -- halves are taken in, because every write is of a new bound.
 use Rattle.std.proofs.Common.{◌≡◌, ℕ, zero, suc, ◌+◌, ◌*◌, ◌/◌, ◌^◌, ◌<◌, ◌≤◌, max, Bool, true, false, ltb, ◌⊎◌, List, length, get_or, set, Some, None, Option, sym, refl, ap, ◌∙◌, subst, inl, inr, ⊎_elim, arith}
 use mathlib.Core.Path.{fun_ext}
-use Rattle.std.specs.Option.{IfSome, MatchOption, option_cmp}
+use Rattle.std.specs.Option.{IfSome, option_cmp}
 use Rattle.std.specs.Ordering.{nat_cmp, ord_max}
 use Rattle.std.specs.Bool.{then_some}
 use Rattle.std.proofs.lemmas.Bool.Decides.{nat_tests}
@@ -13,9 +13,8 @@ use Rattle.bintree.specs.Orders.{end, first_finest, is_triangle}
 use Rattle.bintree.specs.Meshes.{Within}
 use Rattle.bintree.proofs.Numbers.{end_twice}
 use Rattle.terrain.specs.Bounds.{Bounds, offset, limit, WithinLimit}
-use Rattle.terrain.specs.Carving.{highest_passing}
 use Rattle.terrain.specs.Tables.{heights_in, bounds_in}
-use Rattle.terrain.specs.Working.{due, new_bounds, Mixed, Settles, or_zero}
+use Rattle.terrain.specs.Working.{due, new_bounds, Mixed, Settles, or_zero, NamesPassing}
 use Rattle.terrain.proofs.Anew.{not_due, when_due, at_most}
 use Rattle.terrain.proofs.Measuring.{enough, offset_small}
 use Rattle.terrain.proofs.Highest.{triangle_low, triangle_high, none_passing, highest_is}
@@ -110,7 +109,7 @@ module _ (around : Option Point) (n : ℕ) (zs bs : List ℕ) where
 
   -- the highest-numbered that passes, if it passes and none with a higher number does
   passing_is : (r : Option ℕ) → WithinLimit n old → ((j : ℕ) → or_zero r < j → new j ≤ limit) → Real r
-      → MatchOption r (highest_passing n new ≡ 0) (λ i. (0 < i) × (i ≡ highest_passing n new))
+      → NamesPassing n new r
   passing_is None small f x = none_passing n new (λ j p q. f j (omega arith))
   passing_is (Some k) small f x = ⊎_elim
       (λ t. let p = due_low around n k t in let q = due_high around n k t in
@@ -219,5 +218,5 @@ module _ (around : Option Point) (n : ℕ) (zs bs : List ℕ) where
         (λ k. k)
         (cases_lt limit (new j))
 
-    pub settled_passing : WithinLimit n old → MatchOption passing (highest_passing n new ≡ 0) (λ i. (0 < i) × (i ≡ highest_passing n new))
+    pub settled_passing : WithinLimit n old → NamesPassing n new passing
     settled_passing small = passing_is passing small (past small) (higher_real best low.real high.real)

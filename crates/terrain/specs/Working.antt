@@ -1,10 +1,10 @@
 -- What the inner steps of measuring and carving promise each other.
-use Rattle.std.specs.Prelude.{◌≡◌, ℕ, ◌*◌, ◌<◌, ◌≤◌, Bool, ◌⊎◌, List, Some, None, Option, unwrap_or, IfSome}
+use Rattle.std.specs.Prelude.{◌≡◌, ℕ, ◌*◌, ◌<◌, ◌≤◌, Bool, ◌⊎◌, List, Some, None, Option, unwrap_or, IfSome, MatchOption}
 use Rattle.bintree.specs.declared.point.Point.{Point}
 use Rattle.bintree.specs.Orders.{is_splittable}
 use Rattle.bintree.specs.Meshes.{Within}
 use Rattle.terrain.specs.Bounds.{Bounds, offset, limit, worked_out}
-use Rattle.terrain.specs.Carving.{reached}
+use Rattle.terrain.specs.Carving.{reached, highest_passing}
 use Rattle.terrain.specs.Tables.{heights_in, bounds_in}
 
 -- The triangles of order n whose bounds are due to be worked out anew: those that hold a sample, or all splittable ones where none is given.
@@ -23,6 +23,10 @@ Mixed old new now_there = (j : ℕ) → (now_there j ≡ old j) ⊎ (now_there j
 -- A triangle's number, 0 for none.
 abbrev pub or_zero : Option ℕ → ℕ
 or_zero o = unwrap_or o 0
+
+-- The answer names the highest-numbered triangle of order n whose bound passes the limit, or is none where there is none.
+abbrev pub NamesPassing : ℕ → Bounds → Option ℕ → Type 0
+NamesPassing n b answer = MatchOption answer (highest_passing n b ≡ 0) (λ i. (0 < i) × (i ≡ highest_passing n b))
 
 -- Triangle i is settled: it and all that descend from it have their new bounds, and no other bound has changed but to its new one. Besides,
 -- `bound` is the new bound of i, and `passing` the highest-numbered of those triangles whose new bound passes the limit.

@@ -1,6 +1,6 @@
 // Whether the bounds of a source cover its heights.
 ghost use Rattle.std.specs.Prelude.{◌≡◌, ◌<◌, ◌≤◌, MatchResult};
-ghost use Rattle.bintree.specs.Orders.{first_finest};
+ghost use Rattle.bintree.specs.Orders.{end, first_finest};
 ghost use Rattle.bintree.specs.Views.{order_value, order_of, number_of};
 ghost use Rattle.terrain.specs.Bounds.{offset as triangle_offset};
 ghost use Rattle.terrain.specs.Filling.{sampled, bounding, described, breaks_rule, lowest_breaking};
@@ -11,6 +11,16 @@ use bintree::triangle::Triangle;
 
 // No bound of a map passes this.
 pub(crate) const LIMIT: u32 = 16_777_215;
+
+// The triangle of a number that is known to be one.
+pub(crate) fn triangle(order: Order, number: u32) -> Triangle
+    requires low { 2 ≤ number }
+    requires high { number < end (order_value order) }
+    ensures order { order_of result ≡ order_value order }
+    ensures number { number_of result ≡ number }
+{
+    order.triangle(number).unwrap()
+}
 
 // The bound of a triangle; a finest one has none but 0.
 pub(crate) fn bound_of<S: Relief>(source: &S, t: Triangle) -> u32
@@ -41,7 +51,7 @@ fn breaks<S: Relief>(order: Order, source: &S, number: u32) -> bool
     requires high { number < first_finest (order_value order) }
     ensures { result ≡ breaks_rule (described (order_value order) (S.heights source.now) (S.bounds source.now)) number }
 {
-    let t = order.triangle(number).unwrap();
+    let t = triangle(order, number);
     let (low, high) = t.halves().unwrap();
     let bound = source.bound(number);
     let greater = bound_of(source, low).max(bound_of(source, high));

@@ -5,12 +5,14 @@ ghost use Rattle.terrain.specs.Filling.{sampled, bounding, described};
 ghost use Rattle.terrain.specs.Tables.{heights_in, bounds_in};
 ghost use Rattle.terrain.specs.Views.{table_view};
 
-use crate::cover::bound_of;
+use crate::cover::{bound_of, triangle};
 use crate::relief::Relief;
-use crate::table::{ROW, Table};
+use crate::table::Table;
+use crate::table::places::place;
 use bintree::order::Order;
 use bintree::point::Point;
 
+// Samples and triangles are counted by their coordinates and numbers, in which a source is asked: their places in memory follow.
 fn fill_heights<S: Relief>(rows: &mut [u16], order: Order, source: &S)
     requires { length rows.old ≡ 4225 }
     ensures { heights_in (order_value order) rows.new ≡ sampled (order_value order) (S.heights source.now) }
@@ -18,7 +20,8 @@ fn fill_heights<S: Relief>(rows: &mut [u16], order: Order, source: &S)
     let end = order.side() + 1;
     for y in 0..end {
         for x in 0..end {
-            rows[y as usize * ROW + x as usize] = source.height(Point { x, y });
+            let p = Point { x, y };
+            rows[place(p)] = source.height(p);
         }
     }
 }
@@ -28,8 +31,7 @@ fn fill_bounds<S: Relief>(table: &mut [u32], order: Order, source: &S)
     ensures { bounds_in (order_value order) table.new ≡ bounding (order_value order) (S.bounds source.now) }
 {
     for number in 2..order.end() {
-        let t = order.triangle(number).unwrap();
-        table[number as usize] = bound_of(source, t);
+        table[number as usize] = bound_of(source, triangle(order, number));
     }
 }
 

@@ -1,12 +1,11 @@
 // Working bounds out anew, by recursion into the halves.
-ghost use Rattle.std.specs.Prelude.{◌≡◌, ◌+◌, ◌*◌, ◌<◌, ◌≤◌, true, false, length, MatchOption};
+ghost use Rattle.std.specs.Prelude.{◌≡◌, ◌+◌, ◌*◌, true, false, length, MatchOption};
 ghost use Rattle.bintree.specs.Views.{order_value, order_of, number_of, Is};
 ghost use Rattle.terrain.specs.Bounds.{WithinLimit};
-ghost use Rattle.terrain.specs.Carving.{highest_passing};
 ghost use Rattle.terrain.specs.Tables.{bounds_in};
-ghost use Rattle.terrain.specs.Working.{due, new_bounds, Mixed, Settles};
+ghost use Rattle.terrain.specs.Working.{due, new_bounds, Mixed, Settles, NamesPassing};
 
-use crate::cover::{LIMIT, offset};
+use crate::cover::{LIMIT, offset, triangle};
 use crate::relief::Relief;
 use crate::table::surface::Surface;
 use bintree::order::Order;
@@ -32,16 +31,6 @@ fn due_halves(t: Triangle, around: Option<Point>) -> Option<(Triangle, Triangle)
     around
         .is_none_or(|sample| t.holds(sample))
         .then_some(halves)
-}
-
-// A root of a square: triangle 2 or 3.
-fn root(order: Order, number: u32) -> Triangle
-    requires low { 2 ≤ number }
-    requires high { number < 4 }
-    ensures order { order_of result ≡ order_value order }
-    ensures number { number_of result ≡ number }
-{
-    order.triangle(number).unwrap()
 }
 
 impl Surface<'_> {
@@ -84,13 +73,11 @@ impl Surface<'_> {
         requires roomy { length scratch.old ≡ 16384 }
         requires limited { WithinLimit (order_value order) (bounds_in (order_value order) self.now.bounds.now) }
         ensures bounds { bounds_in (order_value order) scratch.new ≡ new_bounds around (order_value order) self.now.heights.now self.now.bounds.now }
-        ensures passing { MatchOption result
-            (highest_passing (order_value order) (new_bounds around (order_value order) self.now.heights.now self.now.bounds.now) ≡ 0)
-            (λ i. (0 < i) × (i ≡ highest_passing (order_value order) (new_bounds around (order_value order) self.now.heights.now self.now.bounds.now))) }
+        ensures passing { NamesPassing (order_value order) (new_bounds around (order_value order) self.now.heights.now self.now.bounds.now) result }
     {
         scratch.copy_from_slice(self.bounds);
-        let low = self.settle(scratch, root(order, 2), around);
-        let high = self.settle(scratch, root(order, 3), around);
+        let low = self.settle(scratch, triangle(order, 2), around);
+        let high = self.settle(scratch, triangle(order, 3), around);
         low.passing.max(high.passing)
     }
 }

@@ -1,15 +1,14 @@
 // What a draft or a map has its table do.
-ghost use Rattle.std.specs.Prelude.{◌≡◌, ℕ, ◌<◌, ◌≤◌, slice_index, replicate, IfOk, MatchOption};
+ghost use Rattle.std.specs.Prelude.{◌≡◌, ℕ, ◌≤◌, slice_index, replicate, IfOk};
 ghost use Rattle.bintree.specs.Refusals.{told};
 ghost use Rattle.bintree.specs.Views.{order_value};
 ghost use Rattle.terrain.specs.Bounds.{WithinLimit, measured};
-ghost use Rattle.terrain.specs.Carving.{highest_passing};
 ghost use Rattle.terrain.specs.Grounds.{carving, bound_of, left_by};
 ghost use Rattle.terrain.specs.Laws.{MeasureLaws};
 ghost use Rattle.terrain.specs.Refusals.{carve_refusal};
 ghost use Rattle.terrain.specs.Tables.{heights_in, bounds_in};
 ghost use Rattle.terrain.specs.Views.{table_view, sketch_view};
-ghost use Rattle.terrain.specs.Working.{new_bounds};
+ghost use Rattle.terrain.specs.Working.{new_bounds, NamesPassing};
 
 use crate::fault::CarveFault;
 use crate::table::places::place_of;
@@ -43,9 +42,7 @@ impl Table {
         ensures bounds { self.new.bounds ≡ self.old.bounds }
         ensures new { bounds_in (order_value order) self.new.scratch.items
             ≡ new_bounds around (order_value order) self.old.heights.items self.old.bounds.items }
-        ensures passing { MatchOption result
-            (highest_passing (order_value order) (new_bounds around (order_value order) self.old.heights.items self.old.bounds.items) ≡ 0)
-            (λ i. (0 < i) × (i ≡ highest_passing (order_value order) (new_bounds around (order_value order) self.old.heights.items self.old.bounds.items))) }
+        ensures passing { NamesPassing (order_value order) (new_bounds around (order_value order) self.old.heights.items self.old.bounds.items) result }
     {
         let surface = Surface::new(self.heights.as_slice(), self.bounds.as_slice());
         surface.settle_all(self.scratch.as_mut_slice(), order, around)

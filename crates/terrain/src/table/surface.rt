@@ -8,7 +8,7 @@ use bintree::point::Point;
 // The heights and the bounds of a table, lent to be read.
 #[derive(Clone, Copy)]
 pub(crate) struct Surface<'a> {
-    heights: &'a [u16],
+    pub(crate) heights: &'a [u16],
     pub(crate) bounds: &'a [u32],
     ghost small: { (k : ℕ) → slice_index heights.now k ≤ 65535 },
     ghost wide: { length bounds.now ≡ 16384 },

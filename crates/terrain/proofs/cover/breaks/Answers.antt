@@ -1,20 +1,16 @@
 -- The test of the rules, on what was read of the triangle and its halves.
 use Rattle.std.proofs.Common.{◌≡◌, ℕ, ◌+◌, ◌*◌, max, Bool, ◌||◌, ltb, sym, ap, ◌∙◌, ap₂, arith}
-use Rattle.std.proofs.lemmas.Bool.{or_left, lt-ltb, le-ltb, some_since, both_ways}
+use Rattle.std.proofs.lemmas.Bool.{or_left, lt-ltb, le-ltb}
 use Rattle.std.proofs.lemmas.Option.{MatchOption-at_some}
-use Rattle.bintree.specs.Orders.{is_triangle}
 use Rattle.bintree.proofs.Numbers.{end_twice}
 use Rattle.terrain.specs.Bounds.{limit, offset}
 use Rattle.terrain.specs.Filling.{sampled, bounding, described, breaks_rule}
-use Rattle.terrain.proofs.Highest.{is_tri}
 use Rattle.terrain.proofs.Fillings.{bounding_splittable, rule_read}
 use Rattle.terrain.proofs.cover.breaks.Goals as goal
 use Rattle.terrain.proofs.cover.breaks.Goals.{After-from-2, at-returns-then-bound-gt-LIMIT, at-returns-else-bound-gt-LIMIT}
 
-pub unwrap-t-requires : goal.unwrap-t-requires
-unwrap-t-requires g c =
-    let n = c.args.order.n in
-    some_since _ _ _ c.triangle.ensures (λ f. both_ways (is_triangle n c.args.number) f (is_tri n c.args.number c.requires.low (omega (arith, end_twice n))))
+pub triangle-t-requires : goal.triangle-t-requires
+triangle-t-requires g c = record { low = c.requires.low; high = omega (arith, end_twice c.args.order.n) }
 
 -- the test, from what the calls before it answered
 tested : (g : Rattle.terrain.proofs.cover.breaks.Given.Over) (c : After-from-2 g)
@@ -25,13 +21,13 @@ tested g c =
     let i = c.args.number in
     let z = g.S.Relief.heights c.args.source.now in
     let b = g.S.Relief.bounds c.args.source.now in
-    let k = MatchOption-at_some _ _ _ c.unwrap-t.ensures c.triangle.ensures in
+    let k = c.triangle-t.ensures in
     let h = MatchOption-at_some _ _ _ c.unwrap.ensures c.halves.ensures in
     rule_read n z b i _ _ _ _ c.requires.low c.requires.high
     (c.bound-bound.ensures ∙ sym (bounding_splittable n b i c.requires.low c.requires.high))
-    (c.bound_of.ensures ∙ ap₂ (λ (m j : ℕ). bounding m b j) (h.1.0 ∙ k.1.0) (h.1.1 ∙ ap (λ (j : ℕ). 2 * j) k.1.1))
-    (c.bound_of-2.ensures ∙ ap₂ (λ (m j : ℕ). bounding m b j) (h.2.0 ∙ k.1.0) (h.2.1 ∙ ap (λ (j : ℕ). 2 * j + 1) k.1.1))
-    (c.offset.ensures.value ∙ ap₂ (λ (m j : ℕ). offset m (sampled m z) j) k.1.0 k.1.1)
+    (c.bound_of.ensures ∙ ap₂ (λ (m j : ℕ). bounding m b j) (h.1.0 ∙ k.order) (h.1.1 ∙ ap (λ (j : ℕ). 2 * j) k.number))
+    (c.bound_of-2.ensures ∙ ap₂ (λ (m j : ℕ). bounding m b j) (h.2.0 ∙ k.order) (h.2.1 ∙ ap (λ (j : ℕ). 2 * j + 1) k.number))
+    (c.offset.ensures.value ∙ ap₂ (λ (m j : ℕ). offset m (sampled m z) j) k.order k.number)
 
 pub returns-then-bound-gt-LIMIT : goal.returns-then-bound-gt-LIMIT
 returns-then-bound-gt-LIMIT g c =

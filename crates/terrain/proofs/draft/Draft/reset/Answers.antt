@@ -1,12 +1,9 @@
 -- An order that was made is the one asked for, and the filled list is all zeros.
-use Rattle.std.proofs.Common.{ap}
-use Rattle.bintree.specs.Refusals.{Reply}
-use Rattle.terrain.specs.Grounds.{Sketch, left_by}
 use Rattle.terrain.specs.Views.{draft_view}
-use Rattle.terrain.proofs.Replies.{resets}
+use Rattle.terrain.proofs.Replies.{leaves, resets}
 use Rattle.terrain.proofs.draft.Draft.reset.Goals as goal
 
 pub returns : goal.returns
 returns c =
     let told = resets c.args.order _ _ _ c.in_ok-order.ensures (c.fill.ensures.items (λ y e. e)) in
-    record { answer = told; after = ap {A = Reply Sketch} {B = Sketch} (λ r. left_by r (draft_view c.args.self.now)) told }
+    record { answer = told; after = leaves (draft_view c.args.self.now) told }

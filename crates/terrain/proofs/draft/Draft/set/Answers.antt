@@ -1,9 +1,7 @@
 -- A write at the place of a sample.
-use Rattle.std.proofs.Common.{◌≡◌, length, vec_items, sym, ap, ◌∙◌}
-use Rattle.bintree.specs.Refusals.{Reply}
-use Rattle.terrain.specs.Grounds.{Sketch, left_by}
+use Rattle.std.proofs.Common.{◌≡◌, length, vec_items, sym, ◌∙◌}
 use Rattle.terrain.specs.Views.{draft_view}
-use Rattle.terrain.proofs.Replies.{sets}
+use Rattle.terrain.proofs.Replies.{leaves, sets}
 use Rattle.terrain.proofs.draft.Draft.set.Goals as goal
 
 pub returns : goal.returns
@@ -12,4 +10,4 @@ returns c =
     let k = c.in_ok-at.ensures in
     let long : length (vec_items d.table.heights) ≡ 4225 = sym d.table.heights.ok.0 ∙ d.table.tall in
     let told = sets d.order.n (vec_items d.table.heights) c.args.p c.args.z c.in_ok-at.at d.order.high long k.0 k.1 in
-    record { answer = told; after = ap {A = Reply Sketch} {B = Sketch} (λ r. left_by r (draft_view d)) told }
+    record { answer = told; after = leaves (draft_view d) told }

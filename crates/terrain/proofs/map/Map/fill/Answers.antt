@@ -3,10 +3,11 @@ use Rattle.std.proofs.Common.{sym, ap, ◌∙◌, subst}
 use Rattle.std.proofs.lemmas.Result.{err_from_is_err_and}
 use Rattle.bintree.specs.Refusals.{Reply, given, refused, told}
 use Rattle.terrain.specs.declared.relief.CoverFault.{CoverFault}
-use Rattle.terrain.specs.Grounds.{Ground, left_by}
+use Rattle.terrain.specs.Grounds.{Ground}
 use Rattle.terrain.specs.Laws.{Covered}
 use Rattle.terrain.specs.Filling.{cover_refusal}
 use Rattle.terrain.specs.Views.{map_view}
+use Rattle.terrain.proofs.Replies.{leaves}
 use Rattle.terrain.proofs.Fillings.{none_covered, fills, refuses, fill_laws}
 use Rattle.terrain.proofs.map.Map.fill.Goals as goal
 
@@ -22,7 +23,7 @@ returns g c =
     let z = g.S.Relief.heights c.args.source.now in
     let b = g.S.Relief.bounds c.args.source.now in
     let e = ap {A = Ground} {B = Reply Ground} given c.fill.ensures ∙ fills n z b c.in_ok-check.ensures in
-    record { answer = e; after = ap {A = Reply Ground} {B = Ground} (λ r. left_by r (map_view c.args.self.now)) e; laws = fill_laws n z b }
+    record { answer = e; after = leaves (map_view c.args.self.now) e; laws = fill_laws n z b }
 
 pub returns-in_err-check : goal.returns-in_err-check
 returns-in_err-check g c =
@@ -34,6 +35,6 @@ returns-in_err-check g c =
     let e = ap {A = CoverFault} {B = Reply Ground} (λ f. refused (cover_refusal f)) p.2 ∙ refuses n z b c.in_err-check.field-0.0.triangle k.0 k.1 in
     record {
       answer = ap (told _ cover_refusal) p.1 ∙ e;
-      after = ap {A = Reply Ground} {B = Ground} (λ r. left_by r (map_view c.args.self.now)) e;
+      after = leaves (map_view c.args.self.now) e;
       laws = fill_laws n z b;
     }

@@ -1,11 +1,9 @@
 -- Done, the table holds the carved map; refused, the one height that was put is put back.
 use Rattle.std.proofs.Common.{◌≡◌, ℕ, List, length, get_or, set, vec_items, sym, ap, ◌∙◌}
 use Rattle.std.proofs.lemmas.List.{set-set, set-get_or}
-use Rattle.bintree.specs.Refusals.{Reply}
-use Rattle.terrain.specs.Grounds.{Ground, left_by}
 use Rattle.terrain.specs.Tables.{heights_in, bounds_in}
 use Rattle.terrain.specs.Views.{table_view}
-use Rattle.terrain.proofs.Replies.{carves, refuses}
+use Rattle.terrain.proofs.Replies.{leaves, carves, refuses}
 use Rattle.terrain.proofs.table.Table.carve.Goals as goal
 
 -- a value is put, and what stood there is put back
@@ -28,7 +26,7 @@ returns-in-Some c =
     record {
       answer = told;
       after = (λ i. record { order = n; heights = heights_in n (back i); bounds = bounds_in n (vec_items (s.bounds i)) })
-          ∙ ap {A = Reply Ground} {B = Ground} (λ r. left_by r (table_view n t)) told;
+          ∙ leaves (table_view n t) told;
     }
 
 pub returns : goal.returns
@@ -40,4 +38,4 @@ returns c =
     let s = rw c.replace-before.ensures.after at c.in_default.ensures in
     let told = carves n (vec_items t.heights) (vec_items t.bounds) c.args.p c.args.z c.in_ok-at.at c.args.order.high long k.0 k.1 _ _
     (ap vec_items s.heights) (ap (λ (v : _). bounds_in n (vec_items v)) c.swap.ensures.x_after ∙ s.new) s.passing in
-    record { answer = told; after = ap {A = Reply Ground} {B = Ground} (λ r. left_by r (table_view n t)) told }
+    record { answer = told; after = leaves (table_view n t) told }

@@ -3,7 +3,6 @@ use Rattle.std.proofs.Common.{◌≡◌, ℕ, ◌<◌, length, get_or, set, sym,
 use Rattle.std.proofs.lemmas.List.{get_or-set_same, get_or-set_other}
 use Rattle.std.proofs.lemmas.Bool.{cases_eq}
 use Rattle.terrain.specs.Filling.{bounding}
-use Rattle.std.proofs.lemmas.Option.{MatchOption-at_some}
 use Rattle.terrain.proofs.Fillings.{bounds_all}
 use Rattle.terrain.proofs.table.fill.fill_bounds.Goals as goal
 
@@ -13,8 +12,8 @@ loop-number-preserved g c j p q =
     let bs = c.loop-number.table in
     let b = g.S.Relief.bounds c.args.source.now in
     let n = c.args.order.n in
-    let k = MatchOption-at_some _ _ _ c.unwrap-t.ensures c.triangle.ensures in
-    let v : c.bound_of.result ≡ bounding n b i = c.bound_of.ensures ∙ ap₂ (λ (m d : ℕ). bounding m b d) k.1.0 k.1.1 in
+    let k = c.triangle.ensures in
+    let v : c.bound_of.result ≡ bounding n b i = c.bound_of.ensures ∙ ap₂ (λ (m d : ℕ). bounding m b d) k.order k.number in
     let here : i < length bs = omega arith in
     ⊎_elim
     (λ e. subst (λ (d : ℕ). get_or (set bs i c.bound_of.result) d 0 ≡ bounding n b d) (sym e) (get_or-set_same bs i c.bound_of.result 0 here ∙ v))
