@@ -1,12 +1,11 @@
 -- Diamonds as the code finds them: by the partner's number, 0 for none.
-use Rattle.std.proofs.Common.{◌≡◌, ℕ, ◌/◌, ◌<◌, ◌≤◌, Bool, true, false, ◌&&◌, ◌||◌, eqb, ◌⊎◌, Some, None, Option, sym, refl, ap, ◌∙◌, subst, inl, inr, arith, MatchOption, IsTrue}
-use Rattle.std.proofs.lemmas.Bool.{cases_lt, both_ways, and_from, eq-eqb, ne_eqb, le-leb, lt-ltb}
+use Rattle.std.proofs.Common.{◌≡◌, ℕ, ◌/◌, ◌<◌, ◌≤◌, Bool, true, false, Some, None, Option, sym, refl, ap, ◌∙◌, arith, MatchOption, IsTrue}
+use Rattle.std.proofs.lemmas.Bool.{and_from, eq-eqb, ne_eqb, le-leb, lt-ltb}
 use Rattle.bintree.specs.declared.triangle.Triangle.{Triangle}
 use Rattle.bintree.specs.Orders.{end, first_finest, is_triangle}
 use Rattle.bintree.specs.Views.{order_of, number_of}
 use Rattle.bintree.specs.Triangles.{partner}
 use Rattle.bintree.specs.Meshes.{Triangles}
-use Rattle.bintree.proofs.Partners.{partners_true, partner_laws}
 use Rattle.mesh.specs.Sets.{holder, rejoin, halves_in, mergeable, merge}
 use Rattle.mesh.specs.Laws.{CrackFreeMesh, Holds}
 use Rattle.mesh.proofs.Square.{square_lawful}
@@ -14,51 +13,22 @@ use Rattle.mesh.proofs.Moves.{no_partner, some_partner}
 use Rattle.mesh.proofs.Theorems.{splits_least}
 use Rattle.mesh.proofs.Unrolled.{Parent, the_parent}
 
--- a partner is a triangle, so a number that is none says that there is no partner
-pub partner_triangle : (n i : ℕ) → 0 < partner n i → (2 ≤ partner n i) × (partner n i < end n)
-partner_triangle n i p = let q = partners_true n i (partner n i) ((partner_laws n i).partnered p) in (q.2, q.3)
-
-is_partner : (n i p : ℕ) → p ≡ partner n i → is_triangle n p ≡ true → 0 < partner n i
-is_partner n i p e t = go (cases_lt 0 (partner n i))
-  where
-    go : (0 < partner n i) ⊎ (partner n i ≤ 0) → 0 < partner n i
-    go (inl h) = h
-    go (inr h) = let z : p ≡ 0 = omega arith in absurd (both_ways (is_triangle n p) (ap (is_triangle n) z) t)
-
-lacks_partner : (n i p : ℕ) → p ≡ partner n i → is_triangle n p ≡ false → partner n i ≡ 0
-lacks_partner n i p e f = go (cases_lt 0 (partner n i))
-  where
-    go : (0 < partner n i) ⊎ (partner n i ≤ 0) → partner n i ≡ 0
-    go (inl h) =
-        let r = partner_triangle n i h in
-        absurd (both_ways (is_triangle n p) f (subst (λ (y : ℕ). is_triangle n y ≡ true) (sym e) (and_from _ _ (le-leb 2 (partner n i) r.0) (lt-ltb (partner n i) (end n) r.1))))
-    go (inr h) = omega arith
-
--- so the triangle of the partner's number, if there is one, is the partner
-pub partner_found : (n i m p : ℕ) (r : Option Triangle) → m ≡ n → p ≡ partner n i →
-    MatchOption r (is_triangle m p ≡ false) (λ t. (is_triangle m p ≡ true) × (order_of t ≡ m) × (number_of t ≡ p)) →
-    MatchOption r (partner n i ≡ 0) (λ t. (0 < partner n i) × (order_of t ≡ n) × (number_of t ≡ partner n i))
-partner_found n i m p None e f h = lacks_partner n i p f (subst (λ (k : ℕ). is_triangle k p ≡ false) e h)
-partner_found n i m p (Some t) e f h = (is_partner n i p f (subst (λ (k : ℕ). is_triangle k p ≡ true) e h.0), h.1 ∙ e, h.2 ∙ f)
-
 -- mergeable, from the halves of the one and of the other
 module _ (n i : ℕ) (P : Triangles) (l : 2 ≤ i) (u : i < end n) where
   there : is_triangle n i ≡ true
   there = and_from _ _ (le-leb 2 i l) (lt-ltb i (end n) u)
 
-  from_tests : (b d : Bool) → halves_in P i ≡ b → (eqb (partner n i) 0 || halves_in P (partner n i)) ≡ d → mergeable n i P ≡ (b && d)
-  unfolding mergeable
-  from_tests b d e f = subst (λ (z : Bool). (z && (halves_in P i && (eqb (partner n i) 0 || halves_in P (partner n i)))) ≡ (b && d)) (sym there)
-      (subst (λ (z : Bool). (z && (eqb (partner n i) 0 || halves_in P (partner n i))) ≡ (b && d)) (sym e) (ap (λ (z : Bool). b && z) f))
-
   pub not_whole : halves_in P i ≡ false → mergeable n i P ≡ false
-  not_whole e = from_tests false _ e refl
+  unfolding mergeable
+  not_whole e = rw (there, e) refl
 
   pub alone_mergeable : halves_in P i ≡ true → partner n i ≡ 0 → mergeable n i P ≡ true
-  alone_mergeable e z = from_tests true true e (subst (λ (b : Bool). (b || halves_in P (partner n i)) ≡ true) (sym (eq-eqb (partner n i) 0 z)) refl)
+  unfolding mergeable
+  alone_mergeable e z = rw (there, e, eq-eqb (partner n i) 0 z) refl
 
   pub both_mergeable : halves_in P i ≡ true → 0 < partner n i → mergeable n i P ≡ halves_in P (partner n i)
-  both_mergeable e p = from_tests true (halves_in P (partner n i)) e (subst (λ (b : Bool). (b || halves_in P (partner n i)) ≡ halves_in P (partner n i)) (sym (ne_eqb (partner n i) 0 (λ z. omega arith))) refl)
+  unfolding mergeable
+  both_mergeable e p = rw (there, e, ne_eqb (partner n i) 0 (λ z. omega arith)) refl
 
 -- merging, with and without a partner
 pub merge_alone : (n i : ℕ) (P : Triangles) → partner n i ≡ 0 → merge n i P ≡ rejoin i P
