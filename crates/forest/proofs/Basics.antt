@@ -1,23 +1,8 @@
--- First facts: of tests, of halves, and of closed sets.
-use Rattle.std.proofs.Common.{◌≡◌, ℕ, ◌+◌, ◌*◌, ◌/◌, ◌<◌, ◌≤◌, Bool, true, false, ◌⊎◌, sym, refl, subst, inl, inr, arith}
+-- First facts: of halves, and of closed sets.
+use Rattle.std.proofs.Common.{◌≡◌, ℕ, ◌+◌, ◌*◌, ◌/◌, ◌<◌, ◌≤◌, true, ◌⊎◌, subst, inl, inr, arith}
 use Rattle.std.proofs.lemmas.Bool.{cases_lt}
 use Rattle.forest.specs.Forests.{Forest, Lawful}
 use Rattle.forest.specs.SplitSets.{Set, Closed}
-
--- a test that cannot be true is false, and the other way round
-pub not_so : (b : Bool) → (b ≡ true → ⊥) → b ≡ false
-not_so true f = absurd (f refl)
-not_so false f = refl
-
-pub not_no : (b : Bool) → (b ≡ false → ⊥) → b ≡ true
-not_no true g = refl
-not_no false g = absurd (g refl)
-
--- two tests that follow from each other are one
-pub same_test : (a b : Bool) → (a ≡ true → b ≡ true) → (b ≡ true → a ≡ true) → a ≡ b
-same_test true b f g = sym (f refl)
-same_test false true f g = g refl
-same_test false false f g = refl
 
 -- a number is one of the two halves of its half
 pub halves : (x : ℕ) → (x ≡ 2 * (x / 2)) ⊎ (x ≡ 2 * (x / 2) + 1)

@@ -1,10 +1,10 @@
 -- The deepest triangle that S splits and R does not is one of a mergeable diamond of S: its partner is outside R too, and no half of the two is
 -- split. Here "deepest" is "of the greatest number": the halves of a triangle and of its partner all have greater numbers than it.
 use Rattle.std.proofs.Common.{◌≡◌, ℕ, zero, suc, ◌+◌, ◌*◌, ◌<◌, ◌≤◌, true, false, ◌⊎◌, inl, inr, arith}
-use Rattle.std.proofs.lemmas.Bool.{cases_Bool, cases_lt, both_ways}
+use Rattle.std.proofs.lemmas.Bool.{cases_Bool, cases_lt, both_ways, false_from_ne_true, true_from_ne_false}
 use Rattle.forest.specs.Forests.{Forest, Lawful}
 use Rattle.forest.specs.SplitSets.{Set, Subset, Closed, Mergeable}
-use Rattle.forest.proofs.Basics.{not_so, not_no, from_low, from_high, from_partner}
+use Rattle.forest.proofs.Basics.{from_low, from_high, from_partner}
 use Rattle.forest.proofs.Levels.{near}
 
 module _ {φ : Forest} (m : Lawful φ) (K S R : Set) (cS : Closed φ S) (cR : Closed φ R) (pins : Subset K R) where
@@ -18,17 +18,17 @@ module _ {φ : Forest} (m : Lawful φ) (K S R : Set) (cS : Closed φ S) (cR : Cl
       record {
         split = s;
         own = (
-          not_so (S (2 * t)) (λ a. both_ways (R t) f (from_low cR t lo (deeper (2 * t) (omega arith) a))),
-          not_so (S (2 * t + 1)) (λ a. both_ways (R t) f (from_high cR t lo (deeper (2 * t + 1) (omega arith) a))),
+          false_from_ne_true (S (2 * t)) (λ a. both_ways (R t) f (from_low cR t lo (deeper (2 * t) (omega arith) a))),
+          false_from_ne_true (S (2 * t + 1)) (λ a. both_ways (R t) f (from_high cR t lo (deeper (2 * t + 1) (omega arith) a))),
         );
         others = λ p.
             let n : t < 2 * φ.partner t = near m t lo up p in
             let low : φ.roots ≤ φ.partner t = (m.inside t lo up p).0 in (
-              not_so (S (2 * φ.partner t)) (λ a. mated p (from_low cR (φ.partner t) low (deeper (2 * φ.partner t) n a))),
-              not_so (S (2 * φ.partner t + 1)) (λ a. mated p (from_high cR (φ.partner t) low (deeper (2 * φ.partner t + 1) (omega arith) a))),
+              false_from_ne_true (S (2 * φ.partner t)) (λ a. mated p (from_low cR (φ.partner t) low (deeper (2 * φ.partner t) n a))),
+              false_from_ne_true (S (2 * φ.partner t + 1)) (λ a. mated p (from_high cR (φ.partner t) low (deeper (2 * φ.partner t + 1) (omega arith) a))),
             );
-        free = not_so (K t) (λ k. both_ways (R t) f (pins t k));
-        free_other = λ p. not_so (K (φ.partner t)) (λ k. mated p (pins (φ.partner t) k));
+        free = false_from_ne_true (K t) (λ k. both_ways (R t) f (pins t k));
+        free_other = λ p. false_from_ne_true (K (φ.partner t)) (λ k. mated p (pins (φ.partner t) k));
       }
 
   -- the greatest triangle of S outside R, from t on, or that there is none
@@ -60,4 +60,4 @@ module _ {φ : Forest} (m : Lawful φ) (K S R : Set) (cS : Closed φ S) (cR : Cl
 
   -- where R splits every mergeable diamond of S, it splits all of S
   pub all_within : ((i : ℕ) → Mergeable φ K S i → R i ≡ true) → Subset S R
-  all_within all i s = not_no (R i) (λ f. let z = some_mergeable i s f in both_ways (R z.0) z.2 (all z.0 z.1))
+  all_within all i s = true_from_ne_false (R i) (λ f. let z = some_mergeable i s f in both_ways (R z.0) z.2 (all z.0 z.1))

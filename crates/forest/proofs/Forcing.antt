@@ -1,11 +1,11 @@
 -- Forced splits. The rule is: where the partner's parent is not split, force that one first; then split the triangle and its partner. Every closed set that has S and the
 -- triangle has the partner, its parent, and so all that is forced. The numbers fall, since the partner's parent is below the triangle.
 use Rattle.std.proofs.Common.{◌≡◌, ℕ, zero, suc, ◌*◌, ◌/◌, ◌^◌, ◌<◌, ◌≤◌, true, false, ◌&&◌, ◌||◌, ltb, ◌⊎◌, sym, refl, ap, ◌∙◌, subst, inl, inr, arith}
+use Rattle.std.specs.Cmp.{both_ways as same_test}
 use mathlib.Core.Path.{fun_ext}
 use Rattle.std.proofs.lemmas.Bool.{cases_Bool, cases_lt, and_parts, and_from, or_cases, or_left, or_right, ltb-true, lt-ltb}
 use Rattle.forest.specs.Forests.{Forest, Lawful}
 use Rattle.forest.specs.SplitSets.{Set, Subset, Closed, Ready, Forced, add}
-use Rattle.forest.proofs.Basics.{same_test}
 use Rattle.forest.proofs.Members.{add_same, add_keeps, add_cases, add_within}
 use Rattle.forest.proofs.Levels.{far}
 

@@ -1,11 +1,11 @@
 -- The key lemma: a set whose mergeable diamonds are all above θ lies within every closed set whose mesh has no number above θ. What such a mesh does not split lies in
 -- a triangle of it, and so has a number of at most θ; a mergeable diamond of S has a triangle above θ, so the mesh splits it.
 use Rattle.std.proofs.Common.{◌≡◌, ℕ, zero, suc, ◌+◌, ◌*◌, ◌/◌, ◌<◌, ◌≤◌, true, false, ◌⊎◌, sym, subst, inl, inr, arith}
-use Rattle.std.proofs.lemmas.Bool.{cases_Bool, cases_lt, both_ways}
+use Rattle.std.proofs.lemmas.Bool.{cases_Bool, cases_lt, both_ways, false_from_ne_true}
 use Rattle.forest.specs.Forests.{Forest, Lawful}
 use Rattle.forest.specs.SplitSets.{Set, Subset, Closed, Mergeable}
 use Rattle.forest.specs.Rules.{Rule, greater, Fine, Needed}
-use Rattle.forest.proofs.Basics.{not_so, halves, from_partner}
+use Rattle.forest.proofs.Basics.{halves, from_partner}
 use Rattle.forest.proofs.Deepest.{all_within}
 
 -- the law, read from a half to its parent
@@ -53,5 +53,5 @@ key {φ} {number} m law θ K S R cS cR pins need fine = all_within m K S R cS cR
         let up : t < φ.finest = (cS.range t g.split).1 in
         let other : 0 < φ.partner t → number (φ.partner t) ≤ θ = λ p.
         let r : (φ.roots ≤ φ.partner t) × (φ.partner t < φ.finest) = m.inside t lo up p in
-        below m law θ R fine (φ.partner t) r.0 (omega arith) (not_so (R (φ.partner t)) (λ a. both_ways (R t) f (from_partner m cR t lo up p a))) in
+        below m law θ R fine (φ.partner t) r.0 (omega arith) (false_from_ne_true (R (φ.partner t)) (λ a. both_ways (R t) f (from_partner m cR t lo up p a))) in
         absurd (omega (arith, need t g, greater_le number t (φ.partner t) θ (below m law θ R fine t lo (omega arith) f) other))

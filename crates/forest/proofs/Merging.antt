@@ -1,9 +1,9 @@
 -- Merges: what is left of a closed set without a mergeable diamond is closed, since no half of the diamond is split and partners go together.
 use Rattle.std.proofs.Common.{◌≡◌, ℕ, zero, suc, ◌+◌, ◌*◌, ◌/◌, ◌<◌, ◌≤◌, true, false, ◌⊎◌, sym, refl, ap, ◌∙◌, subst, inl, inr, arith}
-use Rattle.std.proofs.lemmas.Bool.{both_ways, cases_eq, eq-eqb}
+use Rattle.std.proofs.lemmas.Bool.{both_ways, cases_eq, eq-eqb, false_from_ne_true}
 use Rattle.forest.specs.Forests.{Forest, Lawful}
 use Rattle.forest.specs.SplitSets.{Set, Subset, Closed, Mergeable, Unsplit, none, del, one_or_two, diamond_size, merged, count}
-use Rattle.forest.proofs.Basics.{not_so, halves}
+use Rattle.forest.proofs.Basics.{halves}
 use Rattle.forest.proofs.Members.{del_same, del_other, del_parts}
 use Rattle.forest.proofs.Sums.{size_one, count_size}
 
@@ -26,7 +26,7 @@ module _ (φ : Forest) (S : Set) (i : ℕ) where
   merged_has x n k t = del_other i (del (φ.partner i) S) x k ∙ (del_other (φ.partner i) S x n ∙ t)
 
   pub merged_out : merged φ i S i ≡ false
-  merged_out = not_so (merged φ i S i) (λ t. (merged_parts i t).1 refl)
+  merged_out = false_from_ne_true (merged φ i S i) (λ t. (merged_parts i t).1 refl)
 
 module _ {φ : Forest} (m : Lawful φ) (K S : Set) (c : Closed φ S) (i : ℕ) (g : Mergeable φ K S i) where
   pub merged_closed : Closed φ (merged φ i S)
@@ -61,7 +61,7 @@ module _ {φ : Forest} (m : Lawful φ) (K S : Set) (c : Closed φ S) (i : ℕ) (
       go zero e = omega (arith, count_size m S c, count_size m (merged φ i S) merged_closed, size_one φ.finest (merged φ i S) S i r.1 (merged_out φ S i) g.split (λ x ne. sym (del_other i (del (φ.partner i) S) x ne ∙ none_there x (cases_eq x (φ.partner i)))))
         where
           none_there : (x : ℕ) → (x ≡ φ.partner i) ⊎ (x ≡ φ.partner i → ⊥) → del (φ.partner i) S x ≡ S x
-          none_there x (inl h) = rw (eq-eqb x (φ.partner i) h) (sym (not_so (S x) (λ t. omega (arith, c.range x t, m.some))))
+          none_there x (inl h) = rw (eq-eqb x (φ.partner i) h) (sym (false_from_ne_true (S x) (λ t. omega (arith, c.range x t, m.some))))
           none_there x (inr n) = del_other (φ.partner i) S x n
       go (suc p) e =
           let pos : 0 < φ.partner i = omega arith in

@@ -1,11 +1,11 @@
 -- What a calm mesh is: met, held, finest; and it stays calm when its top is split. After such a split the only new mergeable diamond is that of the top: without any
 -- other one, what is left would be a smaller closed set with the top.
 use Rattle.std.proofs.Common.{◌≡◌, ℕ, ◌+◌, ◌*◌, ◌<◌, ◌≤◌, true, false, ◌⊎◌, inl, inr, arith}
-use Rattle.std.proofs.lemmas.Bool.{cases_Bool, cases_lt, cases_eq, both_ways}
+use Rattle.std.proofs.lemmas.Bool.{cases_Bool, cases_lt, cases_eq, both_ways, false_from_ne_true, true_from_ne_false}
 use Rattle.forest.specs.Forests.{Forest, Lawful}
 use Rattle.forest.specs.SplitSets.{Set, Subset, Closed, Forced, merged, count}
 use Rattle.forest.specs.Rules.{Rule, diamond, Fine, Apart, worst, Top, Calm, Met, Held, Finest}
-use Rattle.forest.proofs.Basics.{not_so, not_no, from_partner}
+use Rattle.forest.proofs.Basics.{from_partner}
 use Rattle.forest.proofs.Sums.{count_le, worst_fine, worst_le}
 use Rattle.forest.proofs.Merging.{merged_has, merged_out, merged_closed}
 use Rattle.forest.proofs.KeyLemma.{key, below, greater_own, greater_other}
@@ -13,7 +13,7 @@ use Rattle.forest.proofs.KeyLemma.{key, below, greater_own, greater_other}
 module _ {φ : Forest} {number : ℕ → ℕ} (m : Lawful φ) (law : Rule φ number) (K S F : Set) (cS : Closed φ S) (t : ℕ) (f : Forced φ S t F) where
   -- what F does not split, S does not
   fewer : (x : ℕ) → F x ≡ false → S x ≡ false
-  fewer x out = not_so (S x) (λ s. both_ways (F x) out (f.keeps x s))
+  fewer x out = false_from_ne_true (S x) (λ s. both_ways (F x) out (f.keeps x s))
 
   pub split_apart : Apart φ K number (number t) S → Apart φ K number (number t) F
   split_apart apart i g = go (cases_Bool (S i)) (cases_eq t i) (cases_eq t (φ.partner i))
@@ -63,13 +63,13 @@ module _ {φ : Forest} {number : ℕ → ℕ} (m : Lawful φ) (law : Rule φ num
       go (inl h) =
           let fine = worst_fine φ R number in
           let sub : Subset S R = key m law (worst φ number R) K S R c r.closed r.keeps (λ i g. omega (arith, apart i g)) fine in
-          let has : R t ≡ true = not_no (R t) (λ out. omega (arith, below m law (worst φ number R) R fine t top.there.range.0 (omega arith) out)) in
+          let has : R t ≡ true = true_from_ne_false (R t) (λ out. omega (arith, below m law (worst φ number R) R fine t top.there.range.0 (omega arith) out)) in
           absurd (omega (arith, count_le m F R f.closed r.closed (f.least R r.closed sub has)))
 
   pub is_finest : φ.finest ≤ t → Finest φ K number S
   is_finest l R r =
       let p = top.there.range in
-      omega (arith, least_worst, below m law (worst φ number R) R (worst_fine φ R number) t p.0 p.1 (not_so (R t) (λ y. omega (arith, r.closed.range t y))))
+      omega (arith, least_worst, below m law (worst φ number R) R (worst_fine φ R number) t p.0 p.1 (false_from_ne_true (R t) (λ y. omega (arith, r.closed.range t y))))
 
   pub stays_calm : (F : Set) → e < number t → Forced φ S t F → Calm φ K number e F
   stays_calm F more f =

@@ -1,11 +1,10 @@
 -- Sums and maxima over the numbers below a bound, sizes of sets, and the count of a mesh. For a closed S a number i is in the mesh of S or in S just where it is a
 -- root or its half is in S; summed over all numbers, the triangles and the split ones are the roots and twice the split ones.
 use Rattle.std.proofs.Common.{◌≡◌, ℕ, zero, suc, ◌+◌, ◌-◌, ◌*◌, ◌/◌, ◌<◌, ◌≤◌, max, Bool, true, false, cond, not, ◌&&◌, ◌||◌, ltb, leb, ◌⊎◌, refl, ap, ◌∙◌, subst, inl, inr, arith}
-use Rattle.std.proofs.lemmas.Bool.{cases_Bool, cases_lt, cases_eq, and_parts, and_from, or_cases, or_left, or_right, leb-true, le-leb, ltb-true, lt-ltb, le-ltb, lt-leb, not-true, not_from_false}
+use Rattle.std.proofs.lemmas.Bool.{cases_Bool, cases_lt, cases_eq, and_parts, and_from, or_cases, or_left, or_right, leb-true, le-leb, ltb-true, lt-ltb, le-ltb, lt-leb, not-true, not_from_false, false_from_ne_true}
 use Rattle.forest.specs.Forests.{Forest, Lawful}
 use Rattle.forest.specs.SplitSets.{Set, Subset, Closed, Present, mesh, one_if, sum_below, size, count}
 use Rattle.forest.specs.Rules.{Fine, max_below, worst}
-use Rattle.forest.proofs.Basics.{not_so}
 
 sum_le : (f g : ℕ → ℕ) (b : ℕ) → ((i : ℕ) → i < b → f i ≤ g i) → sum_below f b ≤ sum_below g b
 sum_le f g zero h = omega arith
@@ -162,7 +161,7 @@ one_above false false h = refl
 
 module _ {φ : Forest} (m : Lawful φ) (S : Set) (c : Closed φ S) where
   low_out : (i : ℕ) → i < φ.roots → S i ≡ false
-  low_out i h = not_so (S i) (λ t. omega (arith, c.range i t))
+  low_out i h = false_from_ne_true (S i) (λ t. omega (arith, c.range i t))
 
   at_each : (i : ℕ) → one_if (mesh φ S i) + one_if (S i) ≡ root φ.roots i + one_if (S (i / 2))
   at_each i = go (cases_lt i φ.roots) (cases_lt i (2 * φ.roots))
@@ -183,7 +182,7 @@ module _ {φ : Forest} (m : Lawful φ) (S : Set) (c : Closed φ S) where
       let f : sum_below (root φ.roots) (2 * φ.finest) ≡ φ.roots =
       ap (sum_below (root φ.roots)) (omega arith) ∙ sum_past (root φ.roots) (φ.roots + φ.roots) (2 * φ.finest - 2 * φ.roots) (λ i l. root_past φ.roots i (omega arith)) ∙ all_roots φ.roots φ.roots (omega arith) in
       let g : sum_below (λ i. one_if (S i)) (2 * φ.finest) ≡ size φ.finest S =
-      ap (sum_below (λ i. one_if (S i))) (omega arith) ∙ sum_past (λ i. one_if (S i)) φ.finest φ.finest (λ i l. ap one_if (not_so (S i) (λ t. omega (arith, c.range i t)))) in
+      ap (sum_below (λ i. one_if (S i))) (omega arith) ∙ sum_past (λ i. one_if (S i)) φ.finest φ.finest (λ i l. ap one_if (false_from_ne_true (S i) (λ t. omega (arith, c.range i t)))) in
       omega arith
 
 pub count_le : {φ : Forest} → Lawful φ → (S R : Set) → Closed φ S → Closed φ R → Subset S R → count φ S ≤ count φ R

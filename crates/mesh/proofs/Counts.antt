@@ -1,11 +1,11 @@
 -- The count of a mesh is the size of its set, and so the count of the theory.
 use Rattle.std.proofs.Common.{◌≡◌, ℕ, zero, suc, ◌+◌, ◌≤◌, Bool, true, false, List, [], ◌∷◌, ◌++◌, length, refl, ap, ◌∙◌, arith, length-append}
+use Rattle.std.proofs.lemmas.Bool.{false_from_ne_true}
 use Rattle.bintree.specs.Orders.{end, first_finest}
 use Rattle.bintree.specs.Meshes.{Triangles}
 use Rattle.bintree.proofs.Numbers.{end_twice}
 use Rattle.forest.specs.SplitSets.{Set, Closed, mesh, one_if, size}
 use Rattle.forest.specs.SplitSets as forest
-use Rattle.forest.proofs.Basics.{not_so}
 use Rattle.forest.proofs.Sums.{size_past, count_size, count_le}
 use Rattle.forest.specs.SplitSets.{Subset}
 use Rattle.mesh.specs.Sets.{members, listed, count}
@@ -40,7 +40,7 @@ pub count_law : (n : ℕ) (P : Triangles) → CrackFreeMesh n P → CountLaw n P
 count_law n P w =
     let S : Set = split_set n P in
     let c = whole_closed n P w in
-    let past : size (end n) S ≡ size (first_finest n) S = ap (λ (b : ℕ). size b S) (omega (arith, end_twice n)) ∙ size_past (first_finest n) (first_finest n) S (λ i l. not_so (S i) (λ t. omega (arith, c.range i t))) in
+    let past : size (end n) S ≡ size (first_finest n) S = ap (λ (b : ℕ). size b S) (omega (arith, end_twice n)) ∙ size_past (first_finest n) (first_finest n) S (λ i l. false_from_ne_true (S i) (λ t. omega (arith, c.range i t))) in
     record {
       split_ones = S;
       all = splits_in n P w.is_mesh;

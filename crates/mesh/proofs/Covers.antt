@@ -1,13 +1,13 @@
 -- A mesh, in which each finest triangle lies in exactly one triangle, is the mesh of its split set: of the splittable triangles that lie in none of its triangles. And
 -- the mesh of a set that has with each triangle its parent is such a mesh.
 use Rattle.std.proofs.Common.{◌≡◌, ℕ, zero, suc, ◌+◌, ◌-◌, ◌*◌, ◌/◌, ◌^◌, ◌<◌, ◌≤◌, Bool, true, false, not, ◌&&◌, ◌||◌, ltb, leb, ◌⊎◌, sym, ap, ◌∙◌, subst, inl, inr, div-one, arith}
+use Rattle.std.specs.Cmp.{both_ways as same_test}
 use mathlib.Core.Path.{fun_ext}
-use Rattle.std.proofs.lemmas.Bool.{cases_Bool, cases_lt, cases_order, both_ways, and_parts, and_from, or_cases, or_left, or_right, leb-true, le-leb, ltb-true, lt-ltb, not-true, not_from_false}
+use Rattle.std.proofs.lemmas.Bool.{cases_Bool, cases_lt, cases_order, both_ways, and_parts, and_from, or_cases, or_left, or_right, leb-true, le-leb, ltb-true, lt-ltb, not-true, not_from_false, false_from_ne_true}
 use Rattle.bintree.specs.Orders.{first_finest}
 use Rattle.bintree.specs.Meshes.{Triangles, Within, IsMesh, Splits}
 use Rattle.bintree.proofs.Numbers.{end_twice}
 use Rattle.forest.specs.SplitSets.{Set, Closed, Present, mesh}
-use Rattle.forest.proofs.Basics.{not_so, same_test}
 use Rattle.forest.proofs.Sums.{mesh_true, mesh_is, mesh_within}
 use Rattle.mesh.proofs.Square.{square, first_from_two}
 use Rattle.mesh.proofs.Ancestors.{above, above_is, above_add, above_le, finest_below}
@@ -68,7 +68,7 @@ module _ (n : ℕ) (P : Triangles) (m : IsMesh n P) where
 
   split_from : (i : ℕ) → 2 ≤ i → i < first_finest n → ((k : ℕ) → P (above k i) ≡ true → ⊥) → split_set n P i ≡ true
   unfolding split_set
-  split_from i lo up h = and_from _ _ (and_from _ _ (le-leb 2 i lo) (lt-ltb i (first_finest n) up)) (not_from_false _ (not_so (held_at (first_finest n) P i) (λ t. let r = held_true (first_finest n) P i t in h r.0 r.1)))
+  split_from i lo up h = and_from _ _ (and_from _ _ (le-leb 2 i lo) (lt-ltb i (first_finest n) up)) (not_from_false _ (false_from_ne_true (held_at (first_finest n) P i) (λ t. let r = held_true (first_finest n) P i t in h r.0 r.1)))
 
   pub split_up : (i : ℕ) → split_set n P i ≡ true → 4 ≤ i → split_set n P (i / 2) ≡ true
   split_up i s l = let a = split_parts i s in split_from (i / 2) (omega arith) (omega (arith, a.1)) (λ k p. a.2 (suc k) p)
@@ -98,7 +98,7 @@ module _ (n : ℕ) (P : Triangles) (m : IsMesh n P) where
       let o = some_above f.0 f.2 f.3 in
       record {
         triangle = a.0;
-        absent = not_so (P i) (λ p. a.2 0 p);
+        absent = false_from_ne_true (P i) (λ p. a.2 0 p);
         below = above o.0 f.0;
         present = o.1;
         within = go f.0 f.1 o.0 f.4 o.1 a.2 (cases_lt o.0 f.1);
@@ -116,7 +116,7 @@ module _ (n : ℕ) (P : Triangles) (m : IsMesh n P) where
   member_present : (a : ℕ) → P a ≡ true → Present (square n) (split_set n P) a
   member_present a p = record {
     range = range a p;
-    whole = not_so _ (λ s. (split_parts a s).2 0 p);
+    whole = false_from_ne_true _ (λ s. (split_parts a s).2 0 p);
     above = λ l. split_from (a / 2) (omega arith) (omega (arith, range a p)) (λ k q. no_two k a p q);
   }
 
@@ -190,7 +190,7 @@ module _ (n : ℕ) (S : Set) (c : Closed (square n) S) where
   mesh_covers = record {
     triangles = λ i t. let r = (present_is i t).range in omega (arith, r, end_twice n);
     some_one = λ f h.
-        let r = climb (suc f) f (omega arith) (omega (arith, h.0, first_from_two n)) (omega (arith, h.1, end_twice n)) (not_so (S f) (λ s. omega (arith, h.0, c.range f s))) in
+        let r = climb (suc f) f (omega arith) (omega (arith, h.0, first_from_two n)) (omega (arith, h.1, end_twice n)) (false_from_ne_true (S f) (λ s. omega (arith, h.0, c.range f s))) in
         (above r.0 f, mesh_true (square n) S (above r.0 f) r.1, (r.0, sym (above_is r.0 f)));
     only_one = λ f i j h p q a b.
         let x : above a.0 f ≡ i = above_is a.0 f ∙ a.1 in

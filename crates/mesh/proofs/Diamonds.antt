@@ -1,5 +1,5 @@
 -- Diamonds as the code finds them: by the partner's number, 0 for none.
-use Rattle.std.proofs.Common.{◌≡◌, ℕ, ◌/◌, ◌<◌, ◌≤◌, Bool, true, false, ◌&&◌, ◌||◌, eqb, Some, None, Option, sym, refl, ap, ◌∙◌, subst, arith, MatchOption, IsTrue}
+use Rattle.std.proofs.Common.{◌≡◌, ℕ, ◌/◌, ◌<◌, ◌≤◌, Bool, true, false, Some, None, Option, sym, refl, ap, ◌∙◌, arith, MatchOption, IsTrue}
 use Rattle.std.proofs.lemmas.Bool.{and_from, eq-eqb, ne_eqb, le-leb, lt-ltb}
 use Rattle.bintree.specs.declared.triangle.Triangle.{Triangle}
 use Rattle.bintree.specs.Orders.{end, first_finest, is_triangle}
@@ -18,19 +18,17 @@ module _ (n i : ℕ) (P : Triangles) (l : 2 ≤ i) (u : i < end n) where
   there : is_triangle n i ≡ true
   there = and_from _ _ (le-leb 2 i l) (lt-ltb i (end n) u)
 
-  from_tests : (b d : Bool) → halves_in P i ≡ b → (eqb (partner n i) 0 || halves_in P (partner n i)) ≡ d → mergeable n i P ≡ (b && d)
-  unfolding mergeable
-  from_tests b d e f = subst (λ (z : Bool). (z && (halves_in P i && (eqb (partner n i) 0 || halves_in P (partner n i)))) ≡ (b && d)) (sym there)
-      (subst (λ (z : Bool). (z && (eqb (partner n i) 0 || halves_in P (partner n i))) ≡ (b && d)) (sym e) (ap (λ (z : Bool). b && z) f))
-
   pub not_whole : halves_in P i ≡ false → mergeable n i P ≡ false
-  not_whole e = from_tests false _ e refl
+  unfolding mergeable
+  not_whole e = rw (there, e) refl
 
   pub alone_mergeable : halves_in P i ≡ true → partner n i ≡ 0 → mergeable n i P ≡ true
-  alone_mergeable e z = from_tests true true e (subst (λ (b : Bool). (b || halves_in P (partner n i)) ≡ true) (sym (eq-eqb (partner n i) 0 z)) refl)
+  unfolding mergeable
+  alone_mergeable e z = rw (there, e, eq-eqb (partner n i) 0 z) refl
 
   pub both_mergeable : halves_in P i ≡ true → 0 < partner n i → mergeable n i P ≡ halves_in P (partner n i)
-  both_mergeable e p = from_tests true (halves_in P (partner n i)) e (subst (λ (b : Bool). (b || halves_in P (partner n i)) ≡ halves_in P (partner n i)) (sym (ne_eqb (partner n i) 0 (λ z. omega arith))) refl)
+  unfolding mergeable
+  both_mergeable e p = rw (there, e, ne_eqb (partner n i) 0 (λ z. omega arith)) refl
 
 -- merging, with and without a partner
 pub merge_alone : (n i : ℕ) (P : Triangles) → partner n i ≡ 0 → merge n i P ≡ rejoin i P

@@ -1,10 +1,9 @@
 -- The facts that a mesh value carries, no hole, no overlap and no crack, are those of a crack-free mesh. A finest triangle in no hole lies in some triangle, which is found by
 -- going up from it: that is a search of known length, so "not none" gives one.
 use Rattle.std.proofs.Common.{◌≡◌, ℕ, zero, suc, ◌/◌, ◌<◌, ◌≤◌, true, false, ◌⊎◌, sym, subst, inl, inr, arith}
-use Rattle.std.proofs.lemmas.Bool.{cases_Bool, cases_eq, both_ways}
+use Rattle.std.proofs.lemmas.Bool.{cases_Bool, cases_eq, both_ways, false_from_ne_true}
 use Rattle.bintree.specs.Orders.{end}
 use Rattle.bintree.specs.Meshes.{Triangles, Within, IsFinest}
-use Rattle.forest.proofs.Basics.{not_so}
 use Rattle.mesh.specs.Invariant.{Hole, Overlap, Crack}
 use Rattle.mesh.specs.declared.mesh.Mesh.{Mesh}
 use Rattle.mesh.specs.Laws.{CrackFreeMesh}
@@ -33,7 +32,7 @@ guarded n P w = record {
 module _ (n : ℕ) (P : Triangles) (g : Guarded n P) where
   -- a triangle of P above t, or none at all; b bounds the way up
   look_up : (b t : ℕ) → t ≤ b → ((k : ℕ) × (P (above k t) ≡ true)) ⊎ ((k : ℕ) → P (above k t) ≡ false)
-  look_up zero t h = inr (λ k. not_so (P (above k t)) (λ p. omega (arith, g.inside (above k t) p, above_le k t)))
+  look_up zero t h = inr (λ k. false_from_ne_true (P (above k t)) (λ p. omega (arith, g.inside (above k t) p, above_le k t)))
   look_up (suc b) t h = go (cases_Bool (P t)) (look_up b (t / 2) (omega arith))
     where
       none : P t ≡ false → ((k : ℕ) → P (above k (t / 2)) ≡ false) → (k : ℕ) → P (above k t) ≡ false

@@ -10,16 +10,11 @@ use Rattle.bintree.specs.Orders.{end}
 use Rattle.mesh.specs.IndexList.{vertices, all_vertices}
 
 -- members
-chosen : Triangles → ℕ → Bool → List ℕ
-chosen P b t = elim t [ true ↦ members P b ++ b ∷ [] | false ↦ members P b ]
-
 pub members_in : (P : Triangles) (i : ℕ) → P i ≡ true → members P (i + 1) ≡ members P i ++ i ∷ []
-unfolding chosen
-members_in P i e = ap (members P) (add-one i) ∙ ap (chosen P i) e
+members_in P i e = rw (add-one i, e, members) refl
 
 pub members_out : (P : Triangles) (i : ℕ) → P i ≡ false → members P (i + 1) ≡ members P i
-unfolding chosen
-members_out P i e = ap (members P) (add-one i) ∙ ap (chosen P i) e
+members_out P i e = rw (add-one i, e, members) refl
 
 -- how many
 pub count_in : (P : Triangles) (i : ℕ) → P i ≡ true → length (members P (i + 1)) ≡ length (members P i) + 1
@@ -28,16 +23,16 @@ count_in P i e = ap length (members_in P i e) ∙ length-append (members P i) (i
 pub count_out : (P : Triangles) (i : ℕ) → P i ≡ false → length (members P (i + 1)) ≡ length (members P i)
 count_out P i e = ap length (members_out P i e)
 
-step_up : (P : Triangles) (b : ℕ) → (length (members P b) ≤ length (members P (suc b))) × (length (members P (suc b)) ≤ length (members P b) + 1)
-step_up P b = go (P b)
+step_up : (P : Triangles) (b : ℕ) → (length (members P b) ≤ length (members P (b + 1))) × (length (members P (b + 1)) ≤ length (members P b) + 1)
+step_up P b = go (cases_Bool (P b))
   where
-    go : (t : Bool) → (length (members P b) ≤ length (elim t as (λ _. List ℕ) [ true ↦ members P b ++ b ∷ [] | false ↦ members P b ])) × (length (elim t as (λ _. List ℕ) [ true ↦ members P b ++ b ∷ [] | false ↦ members P b ]) ≤ length (members P b) + 1)
-    go true = omega (arith, length-append (members P b) (b ∷ []))
-    go false = omega arith
+    go : (P b ≡ true) ⊎ (P b ≡ false) → (length (members P b) ≤ length (members P (b + 1))) × (length (members P (b + 1)) ≤ length (members P b) + 1)
+    go (inl t) = omega (arith, count_in P b t)
+    go (inr f) = omega (arith, count_out P b f)
 
 pub count_bound : (P : Triangles) (b : ℕ) → length (members P b) ≤ b
 count_bound P zero = omega arith
-count_bound P (suc b) = omega (arith, count_bound P b, step_up P b)
+count_bound P (suc b) = let e : suc b ≡ b + 1 = omega arith in rw e (omega (arith, count_bound P b, step_up P b))
 
 pub count_grows : (P : Triangles) (i e : ℕ) → i ≤ e → length (members P i) ≤ length (members P e)
 count_grows P i zero h = let z : i ≡ 0 = omega arith in rw z (omega arith)
@@ -45,7 +40,7 @@ count_grows P i (suc e) h = go (cases_lt e i) (count_grows P i e)
   where
     go : (e < i) ⊎ (i ≤ e) → (i ≤ e → length (members P i) ≤ length (members P e)) → length (members P i) ≤ length (members P (suc e))
     go (inl l) ih = let z : i ≡ suc e = omega arith in rw z (omega arith)
-    go (inr l) ih = omega (arith, ih l, step_up P e)
+    go (inr l) ih = let s : suc e ≡ e + 1 = omega arith in rw s (omega (arith, ih l, step_up P e))
 
 -- the count of a mesh, by its members
 pub count_members : (n : ℕ) (P : Triangles) → count n P ≡ length (members P (end n))

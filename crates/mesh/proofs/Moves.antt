@@ -2,14 +2,14 @@
 -- merging takes the diamond out.
 use Rattle.std.proofs.Common.{◌≡◌, ℕ, zero, suc, ◌+◌, ◌*◌, ◌/◌, ◌^◌, ◌<◌, ◌≤◌, Bool, true, false, ◌||◌, eqb, ltb, leb, ◌⊎◌, sym, refl, ap, ◌∙◌, subst, inl, inr, arith}
 use mathlib.Core.Path.{fun_ext}
-use Rattle.std.proofs.lemmas.Bool.{cases_Bool, cases_lt, cases_eq, both_ways, and_parts, and_from, and_right, or_cases, or_left, or_right, eqb-true, eq-eqb, ne_eqb, leb-true, le-leb, ltb-false, lt-ltb, le-ltb}
+use Rattle.std.proofs.lemmas.Bool.{cases_Bool, cases_lt, cases_eq, both_ways, and_parts, and_from, and_right, or_cases, or_left, or_right, eqb-true, eq-eqb, ne_eqb, leb-true, le-leb, ltb-false, lt-ltb, le-ltb, false_from_ne_true}
 use Rattle.bintree.specs.Orders.{end, first_finest}
 use Rattle.bintree.specs.Triangles.{partner}
 use Rattle.bintree.specs.Meshes.{Triangles}
 use Rattle.bintree.proofs.Numbers.{end_twice}
 use Rattle.forest.specs.Forests.{Lawful}
 use Rattle.forest.specs.SplitSets.{Set, none, Closed, Present, Ready, Forced, Mergeable, Unsplit, mesh, add, del, merged}
-use Rattle.forest.proofs.Basics.{not_so, from_low, from_high, from_partner}
+use Rattle.forest.proofs.Basics.{from_low, from_high, from_partner}
 use Rattle.forest.proofs.Members.{add_other, del_other}
 use Rattle.forest.proofs.Levels.{level_of, level_from, near, far}
 use Rattle.forest.proofs.Sums.{mesh_true, mesh_is, mesh_within}
@@ -23,10 +23,10 @@ abbrev pub by_partner : {A : Type 0} → ℕ → A → A → A
 by_partner p a b = elim (eqb p 0) [ true ↦ a | false ↦ b ]
 
 pub no_partner : {A : Type 0} (p : ℕ) (a b : A) → p ≡ 0 → by_partner p a b ≡ a
-no_partner {A} p a b e = subst (λ (c : Bool). elim c as (λ _. A) [ true ↦ a | false ↦ b ] ≡ a) (sym (eq-eqb p 0 e)) refl
+no_partner p a b e = rw (eq-eqb p 0 e, by_partner) refl
 
 pub some_partner : {A : Type 0} (p : ℕ) (a b : A) → 0 < p → by_partner p a b ≡ b
-some_partner {A} p a b h = subst (λ (c : Bool). elim c as (λ _. A) [ true ↦ a | false ↦ b ] ≡ b) (sym (ne_eqb p 0 (λ e. omega arith))) refl
+some_partner p a b h = rw (ne_eqb p 0 (λ e. omega arith), by_partner) refl
 
 abbrev pub by_test : {A : Type 0} → Bool → A → A → A
 by_test c a b = elim c [ true ↦ a | false ↦ b ]
@@ -62,8 +62,8 @@ module _ (n : ℕ) where
   -- the halves of an unsplit triangle are unsplit
   unsplit : (S : Set) → Closed (square n) S → (i : ℕ) → 2 ≤ i → S i ≡ false → Unsplit S i
   unsplit S c i l f = (
-    not_so (S (2 * i)) (λ t. both_ways (S i) f (from_low c i l t)),
-    not_so (S (2 * i + 1)) (λ t. both_ways (S i) f (from_high c i l t)),
+    false_from_ne_true (S (2 * i)) (λ t. both_ways (S i) f (from_low c i l t)),
+    false_from_ne_true (S (2 * i + 1)) (λ t. both_ways (S i) f (from_high c i l t)),
   )
 
   -- the two of a diamond
@@ -99,7 +99,7 @@ module _ (n : ℕ) where
 
       -- its partner is not split
       partner_whole : 0 < partner n i → S (partner n i) ≡ false
-      partner_whole p = not_so _ (λ t. both_ways (S i) q.whole (from_partner lawful c i q.range.0 u p t))
+      partner_whole p = false_from_ne_true _ (λ t. both_ways (S i) q.whole (from_partner lawful c i q.range.0 u p t))
 
       -- where its partner is absent, the partner's parent is present, and of a level above
       pub record Forcing : Type 0 where
@@ -112,7 +112,7 @@ module _ (n : ℕ) where
       forcing p out =
           let r = lawful.inside i q.range.0 u p in
           let big : 4 ≤ partner n i = large r (cases_lt (partner n i) 4) in
-          let whole : S (partner n i / 2) ≡ false = not_so _ (λ y. both_ways (mesh (square n) S (partner n i)) out (mesh_true (square n) S (partner n i) (record { range = (r.0, omega (arith, r.1)); whole = partner_whole p; above = λ _. y }))) in
+          let whole : S (partner n i / 2) ≡ false = false_from_ne_true _ (λ y. both_ways (mesh (square n) S (partner n i)) out (mesh_true (square n) S (partner n i) (record { range = (r.0, omega (arith, r.1)); whole = partner_whole p; above = λ _. y }))) in
           let pr = parent_ready lawful S c i ready p big in
           record {
             low = big;
@@ -133,7 +133,7 @@ module _ (n : ℕ) where
           let from = level_from lawful i q.range.0 u p k.0 k.1 in
           let to : partner n i < 2 * 2 ^ suc k.0 = lawful.level i (suc k.0) q.range.0 u p k.2 in
           let low : partner n i / 2 < 2 * 2 ^ k.0 = omega arith in
-          (not_so (F i) (λ y. late k.0 low i k.1 q.whole y), not_so (F (partner n i)) (λ y. late k.0 low (partner n i) from (partner_whole p) y))
+          (false_from_ne_true (F i) (λ y. late k.0 low i k.1 q.whole y), false_from_ne_true (F (partner n i)) (λ y. late k.0 low (partner n i) from (partner_whole p) y))
         where
           late : (k : ℕ) → partner n i / 2 < 2 * 2 ^ k → (x : ℕ) → 2 * 2 ^ k ≤ x → S x ≡ false → F x ≡ true → ⊥
           late k h x a s y = last (shallow lawful S F (partner n i / 2) k c f h x y)
@@ -250,7 +250,7 @@ module _ (n : ℕ) where
             no_partner (partner n i) _ _ e ∙ (rejoin_del S i r.0 (c.up i g.split) ∙ ap (λ (R : Set). mesh (square n) (del i R)) (sym f))
           where
             out : (x : ℕ) → (x ≡ partner n i) ⊎ (x ≡ partner n i → ⊥) → del (partner n i) S x ≡ S x
-            out x (inl e) = rw (eq-eqb x (partner n i) e) (sym (not_so (S x) (λ t. omega (arith, c.range x t))))
+            out x (inl e) = rw (eq-eqb x (partner n i) e) (sym (false_from_ne_true (S x) (λ t. omega (arith, c.range x t))))
             out x (inr ne) = del_other (partner n i) S x ne
         go (inl p) =
             let t = c.across i g.split p in

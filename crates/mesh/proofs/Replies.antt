@@ -1,25 +1,17 @@
 -- What the one-call definitions give, case by case, and the flags that a call of the code leaves.
-use Rattle.std.proofs.Common.{◌≡◌, ℕ, ◌≤◌, Bool, true, false, cond, ltb, List, Option, Some, None, MatchOption, sym, ap, ap₂, ◌∙◌, arith}
-use Rattle.std.proofs.lemmas.Bool.{both_ways, and_from, and_left, le-leb, lt-ltb, le-ltb}
+use Rattle.std.proofs.Common.{◌≡◌, ℕ, ◌≤◌, Bool, true, false, cond, Option, Some, None, MatchOption, refl, sym, ap, ap₂, arith}
+use Rattle.std.proofs.lemmas.Bool.{and_left, le-ltb}
 use Rattle.std.specs.Bool.{then_some}
 use Rattle.bintree.specs.declared.triangle.Triangle.{Triangle}
 use Rattle.bintree.specs.Views.{order_of, number_of, Is}
-use Rattle.bintree.specs.Orders.{end, first_finest, is_order, is_triangle}
+use Rattle.bintree.specs.Orders.{first_finest, is_order, is_triangle}
 use Rattle.bintree.specs.Meshes.{Triangles}
 use Rattle.bintree.specs.Refusals.{Refusal, Reply, given, refused, ordering}
-use Rattle.forest.proofs.Basics.{not_so}
-use Rattle.mesh.specs.Invariant.{flagged}
-use Rattle.mesh.specs.Sets.{roots, split, mergeable, merge}
+use Rattle.mesh.specs.Sets.{roots, mergeable}
 use Rattle.mesh.specs.Faults.{no_order, absent, finest, not_mergeable}
 use Rattle.mesh.specs.Calls.{State, state, Outcome, leaves, refuses, outcome, reset_call, split_call, merge_call}
-use Rattle.mesh.specs.Laws.{CrackFreeMesh}
 
--- a number that is no triangle is not present, and not one of a diamond
-pub not_there : (n i : ℕ) (P : Triangles) → CrackFreeMesh n P → is_triangle n i ≡ false → P i ≡ false
-not_there n i P w f = not_so (P i) (λ p.
-    let r = w.is_mesh.triangles i p in
-    both_ways (is_triangle n i) f (and_from _ _ (le-leb 2 i r.0) (lt-ltb i (end n) r.1)))
-
+-- a number that is no triangle is not one of a diamond
 pub no_diamond : (n i : ℕ) (P : Triangles) → is_triangle n i ≡ false → mergeable n i P ≡ false
 unfolding mergeable
 no_diamond n i P f = and_left _ _ f
@@ -39,18 +31,15 @@ diamond_found n i P (Some t) f h e = go (mergeable (order_of t) (number_of t) P)
 -- refusals
 pub split_absent : (n i : ℕ) (P : Triangles) → P i ≡ false → refuses (state n P) (absent i) ≡ split_call (state n P) i
 unfolding split_call
-split_absent n i P e =
-    sym (ap (λ (b : Bool). elim b as (λ _. Outcome) [ false ↦ refuses (state n P) (absent i) | true ↦ elim (ltb i (first_finest n)) [ false ↦ refuses (state n P) (finest i) | true ↦ leaves (state n (split n i P)) ] ]) e)
+split_absent n i P e = rw e refl
 
 pub split_finest : (n i : ℕ) (P : Triangles) → P i ≡ true → first_finest n ≤ i → refuses (state n P) (finest i) ≡ split_call (state n P) i
 unfolding split_call
-split_finest n i P e u =
-    sym (ap (λ (b : Bool). elim b as (λ _. Outcome) [ false ↦ refuses (state n P) (absent i) | true ↦ elim (ltb i (first_finest n)) [ false ↦ refuses (state n P) (finest i) | true ↦ leaves (state n (split n i P)) ] ]) e
-    ∙ ap (λ (b : Bool). elim b as (λ _. Outcome) [ false ↦ refuses (state n P) (finest i) | true ↦ leaves (state n (split n i P)) ]) (le-ltb i (first_finest n) u))
+split_finest n i P e u = rw (e, le-ltb i (first_finest n) u) refl
 
 pub merge_refused : (n i : ℕ) (P : Triangles) → mergeable n i P ≡ false → refuses (state n P) (not_mergeable i) ≡ merge_call (state n P) i
 unfolding merge_call
-merge_refused n i P e = sym (ap (λ (b : Bool). elim b as (λ _. Outcome) [ false ↦ refuses (state n P) (not_mergeable i) | true ↦ leaves (state n (merge n i P)) ]) e)
+merge_refused n i P e = rw (e, merge_call) refl
 
 -- resets, from what making the order gave
 resets : State → ℕ → Bool → Outcome
@@ -71,9 +60,3 @@ reset_goes s n m e = go (is_order n) e
     go : (b : Bool) → ◌≡◌ {A = Reply ℕ} (given m) (cond b (given n) (refused (no_order n))) → leaves (state m roots) ≡ resets s n b
     go true q = let z : m ≡ n = cc in ap (λ (k : ℕ). leaves (state k roots)) z
     go false q = let z : ◌≡◌ {A = ℕ} 0 1 = cc in absurd (omega arith)
-
--- the flags after a change f, made on a slice of them
-pub changed : (f : ℕ → ℕ → Triangles → Triangles) (n i m j : ℕ) (items slice last now : List Bool) → m ≡ n → j ≡ i → slice ≡ items → flagged last ≡ f m j (flagged slice) → now ≡ last →
-    flagged now ≡ f n i (flagged items)
-changed f n i m j items slice last now em ej es el en =
-    ap flagged en ∙ (el ∙ (ap (λ (k : ℕ). f k j (flagged slice)) em ∙ (ap (λ (k : ℕ). f n k (flagged slice)) ej ∙ ap (λ (l : List Bool). f n i (flagged l)) es)))

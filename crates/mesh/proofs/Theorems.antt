@@ -1,21 +1,20 @@
 -- What splits and merges do to crack-free meshes: read off the split sets.
-use Rattle.std.proofs.Common.{◌≡◌, ℕ, ◌+◌, ◌*◌, ◌/◌, ◌<◌, ◌≤◌, Bool, true, false, ltb, ◌⊎◌, sym, refl, ap, ◌∙◌, subst, inl, inr, arith}
+use Rattle.std.proofs.Common.{◌≡◌, ℕ, ◌+◌, ◌*◌, ◌/◌, ◌<◌, ◌≤◌, true, false, ◌⊎◌, sym, refl, ap, ◌∙◌, subst, inl, inr, arith}
+use Rattle.std.specs.Cmp.{both_ways as same_test}
 use mathlib.Core.Path.{fun_ext}
-use Rattle.std.proofs.lemmas.Bool.{cases_lt, cases_eq, both_ways, lt-ltb}
+use Rattle.std.proofs.lemmas.Bool.{cases_lt, cases_eq, both_ways, lt-ltb, false_from_ne_true}
 use Rattle.bintree.specs.Orders.{first_finest}
 use Rattle.bintree.specs.Triangles.{partner}
 use Rattle.bintree.specs.Meshes.{Triangles, Splits}
 use Rattle.forest.specs.Forests.{Lawful}
 use Rattle.forest.specs.SplitSets.{Set, Subset, none, Closed, Present, Ready, Forced, Mergeable, mesh, add, merged}
-use Rattle.forest.proofs.Basics.{not_so, same_test}
 use Rattle.forest.proofs.Members.{add_cases}
 use Rattle.forest.proofs.Levels.{near, far}
 use Rattle.forest.proofs.Sums.{mesh_true}
 use Rattle.forest.proofs.Forcing.{before_same, alone, paired}
 use Rattle.forest.proofs.Merging.{merged_parts, merged_has, merged_out, merged_closed}
 use Rattle.mesh.specs.Sets.{split, mergeable, merge, count}
-use Rattle.mesh.specs.Calls.{Outcome, state, leaves, refuses, split_call, merge_call}
-use Rattle.mesh.specs.Faults.{absent, finest, not_mergeable}
+use Rattle.mesh.specs.Calls.{state, leaves, split_call, merge_call}
 use Rattle.mesh.specs.Laws.{CrackFreeMesh, SplitsAll, LeastSplit, Undone, SplitLaws, MergeLaws}
 use Rattle.mesh.proofs.Square.{square, square_lawful}
 use Rattle.mesh.proofs.Covers.{split_set, splits_in, in_splits, mesh_of_splits, splits_set, set_splits}
@@ -27,13 +26,11 @@ use Rattle.mesh.proofs.Moves.{present_in, the_split, split_is, mergeable_is, is_
 -- a split and a merge that are not refused
 pub split_goes : (n i : ℕ) (P : Triangles) → P i ≡ true → i < first_finest n → split_call (state n P) i ≡ leaves (state n (split n i P))
 unfolding split_call
-split_goes n i P e u =
-    ap (λ (b : Bool). elim b as (λ _. Outcome) [ false ↦ refuses (state n P) (absent i) | true ↦ elim (ltb i (first_finest n)) [ false ↦ refuses (state n P) (finest i) | true ↦ leaves (state n (split n i P)) ] ]) e
-    ∙ ap (λ (b : Bool). elim b as (λ _. Outcome) [ false ↦ refuses (state n P) (finest i) | true ↦ leaves (state n (split n i P)) ]) (lt-ltb i (first_finest n) u)
+split_goes n i P e u = rw (e, lt-ltb i (first_finest n) u) refl
 
 pub merge_goes : (n i : ℕ) (P : Triangles) → mergeable n i P ≡ true → merge_call (state n P) i ≡ leaves (state n (merge n i P))
 unfolding merge_call
-merge_goes n i P e = ap (λ (b : Bool). elim b as (λ _. Outcome) [ false ↦ refuses (state n P) (not_mergeable i) | true ↦ leaves (state n (merge n i P)) ]) e
+merge_goes n i P e = rw (e, merge_call) refl
 
 module _ (n : ℕ) (S : Set) (c : Closed (square n) S) where
   lawful : Lawful (square n)
@@ -78,7 +75,7 @@ module _ (n : ℕ) (S F : Set) (c : Closed (square n) S) (d : Closed (square n) 
 
   -- no half of either is in F
   no_half_in : (t x : ℕ) → (t ≡ j) ⊎ (t ≡ k) → (x ≡ 2 * t) ⊎ (x ≡ 2 * t + 1) → F x ≡ false
-  no_half_in t x e h = not_so (F x) (λ y. go e (g.only x y))
+  no_half_in t x e h = false_from_ne_true (F x) (λ y. go e (g.only x y))
     where
       half : (s : Set) → x / 2 ≡ t → s t ≡ false → s (x / 2) ≡ true → ⊥
       half s q f y = both_ways (s t) f (subst (λ (z : ℕ). s z ≡ true) q y)

@@ -15,6 +15,7 @@ use std::alloc::{AllocError, Global};
 
 impl Mesh {
     // A new mesh: order 1, and the triangles 2 and 3. All the memory that a mesh ever needs is taken here.
+    #[tactic(auto, using(crate::proofs::Runs::runs_sound))]
     pub fn new(heap: Global) -> Result<Mesh, AllocError>
         ensures made { IfOk result (λ m. state_of m ≡ new_mesh) }
         ensures runs { RunsSound }

@@ -38,7 +38,7 @@ fn vertices(t: Triangle) -> [u16; 3]
 }
 
 impl Mesh {
-    // Fills the places with the index list.
+    // Fills the places with the index list. (Of places that `chunks_exact_mut` hands out no proof knows what they hold afterwards, so they are counted.)
     fn write_list(&self, places: &mut [u16])
         requires { length places.old ≡ 3 * count_of (order_of self.now) (triangles_of self.now) }
         ensures { places.new ≡ list_of (order_of self.now) (triangles_of self.now) }

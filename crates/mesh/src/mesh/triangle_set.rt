@@ -12,7 +12,7 @@ const FLAGS: usize = 16384;
 
 // A set of triangles of one square: a flag for each triangle number.
 #[derive(Drop)]
-pub struct TriangleSet {
+pub(super) struct TriangleSet {
     flags: Vec<bool>,
     ghost room: { vec_len flags ≡ 16384 },
 }
@@ -60,6 +60,7 @@ impl TriangleSet {
     }
 
     // Puts the halves of t in its place. (`rejoin` is the step back: one function with a flag that says which would be no plainer.)
+    #[tactic(auto, using(crate::proofs::Flags::halves_fit))]
     fn halve(&mut self, t: Triangle)
         requires splittable { number_of t < first_finest (order_of t) }
         ensures { triangles_in self.new ≡ halved (number_of t) (triangles_in self.old) }
@@ -71,6 +72,7 @@ impl TriangleSet {
     }
 
     // Puts t in the place of its halves.
+    #[tactic(auto, using(crate::proofs::Flags::halves_fit))]
     fn rejoin(&mut self, t: Triangle)
         requires splittable { number_of t < first_finest (order_of t) }
         ensures { triangles_in self.new ≡ rejoined (number_of t) (triangles_in self.old) }

@@ -4,15 +4,6 @@ use Rattle.mesh.specs.TriangleSet.{triangles_in}
 use Rattle.mesh.proofs.Flags.{halves_fit, halve_flags}
 use Rattle.mesh.proofs.mesh.triangle_set.TriangleSet.halve.Goals as goal
 
-pub index_mut-requires : goal.index_mut-requires
-index_mut-requires c = omega (arith, halves_fit c.args.t c.requires.splittable)
-
-pub index_mut-requires-2 : goal.index_mut-requires-2
-index_mut-requires-2 c = omega (arith, halves_fit c.args.t c.requires.splittable)
-
-pub index_mut-requires-3 : goal.index_mut-requires-3
-index_mut-requires-3 c = omega (arith, halves_fit c.args.t c.requires.splittable)
-
 pub returns : goal.returns
 returns c =
     let s = c.args.self.now in
