@@ -1,5 +1,6 @@
-// Why a file is refused: a fault for each layer of the reader, those of the inner layers inside those of the outer ones.
-ghost use Rattle.std.specs.Prelude.{◌≡◌};
+// Why a file is refused: a fault for each layer of the reader, those of the inner layers inside those of the outer ones. What a fault prints is its
+// refusal: the number, and what comes with it.
+ghost use Rattle.std.specs.Prelude.{◌≡◌, Some};
 ghost use Rattle.baked.specs.declared.fault.TrailerFault.TheVariants.{Order as OrderCase};
 ghost use Rattle.baked.specs.declared.fault.TableFault.TheVariants.{Uncovered as UncoveredCase};
 ghost use Rattle.baked.specs.declared.fault.SectionsFault.TheVariants.{Table as TableCase};
@@ -47,6 +48,10 @@ pub enum FileFault {
 }
 
 impl fmt::Display for TrailerFault {
+    ghost use Rattle.baked.specs.Texts.{trailer_text};
+
+    ghost output = { λ f. Some (trailer_text f) };
+
     fn fmt<W: fmt::Write>(&self, f: &mut fmt::Formatter<W>) -> fmt::Result {
         match self {
             TrailerFault::Length(length) => write!(f, "refused 1 length {length}"),
@@ -57,6 +62,10 @@ impl fmt::Display for TrailerFault {
 }
 
 impl fmt::Display for SectionName {
+    ghost use Rattle.baked.specs.Texts.{section_text};
+
+    ghost output = { λ f. Some (section_text f) };
+
     fn fmt<W: fmt::Write>(&self, f: &mut fmt::Formatter<W>) -> fmt::Result {
         match self {
             SectionName::Heights => write!(f, "heights"),
@@ -66,6 +75,10 @@ impl fmt::Display for SectionName {
 }
 
 impl fmt::Display for TableFault {
+    ghost use Rattle.baked.specs.Texts.{table_text};
+
+    ghost output = { λ f. Some (table_text f) };
+
     fn fmt<W: fmt::Write>(&self, f: &mut fmt::Formatter<W>) -> fmt::Result {
         match self {
             TableFault::Uncovered(triangle) => write!(f, "refused 6 triangle {triangle}"),
@@ -74,6 +87,10 @@ impl fmt::Display for TableFault {
 }
 
 impl fmt::Display for SectionsFault {
+    ghost use Rattle.baked.specs.Texts.{sections_text};
+
+    ghost output = { λ f. Some (sections_text f) };
+
     fn fmt<W: fmt::Write>(&self, f: &mut fmt::Formatter<W>) -> fmt::Result {
         match self {
             SectionsFault::Distance(section) => write!(f, "refused 4 section {section}"),
@@ -84,6 +101,10 @@ impl fmt::Display for SectionsFault {
 }
 
 impl fmt::Display for FileFault {
+    ghost use Rattle.baked.specs.Texts.{file_text};
+
+    ghost output = { λ f. Some (file_text f) };
+
     fn fmt<W: fmt::Write>(&self, f: &mut fmt::Formatter<W>) -> fmt::Result {
         match self {
             FileFault::Trailer(fault) => write!(f, "{fault}"),

@@ -17,7 +17,7 @@ pub struct Section<'a> {
     pub bytes: &'a [u8],
 }
 
-// The order of a file and its two sections.
+// The order of a file and its two sections, which hold the heights and the bounds of a map.
 #[derive(Clone, Copy)]
 pub struct Sections<'a> {
     pub order: Order,

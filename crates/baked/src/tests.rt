@@ -149,26 +149,3 @@ fn the_largest(rt: HostRuntime) -> Result<(), Fail> {
     assert_eq!(rt; map.bound(8191), Some(16777215));
     Ok(())
 }
-
-// Each fault says the number of its refusal and what comes with it; an outer fault says what the inner one does.
-#[test]
-fn texts(rt: HostRuntime) -> Result<(), Fail> {
-    let trailer = FileFault::Trailer;
-    let sections = FileFault::Sections;
-    for (fault, text) in [
-        (trailer(TrailerFault::Length(11)), "refused 1 length 11"),
-        (trailer(TrailerFault::Field(9)), "refused 2 place 9"),
-        (trailer(TrailerFault::Order(9)), "refused 3 order 9"),
-        (sections(HEIGHTS), "refused 4 section heights"),
-        (sections(BOUNDS), "refused 4 section bounds"),
-        (sections(SectionsFault::Overlap), "refused 5"),
-        (
-            sections(SectionsFault::Table(TableFault::Uncovered(17))),
-            "refused 6 triangle 17",
-        ),
-    ] {
-        let told = format!(in rt.alloc(); "{fault}")?;
-        assert_eq!(rt; told.as_str(), text);
-    }
-    Ok(())
-}

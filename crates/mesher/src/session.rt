@@ -4,6 +4,7 @@ use crate::lines::Request;
 use crate::refusal::Refusal;
 use baked::reader::Reader;
 use bintree::order::Order;
+use bintree::triangle::Triangle;
 use mesh::mesh::Mesh;
 use std::alloc::{AllocError, Global};
 use std::{fs, mem};
@@ -39,7 +40,9 @@ impl Session {
         request: Request<'a>,
     ) -> Result<Answer<'s>, Refusal<'a>> {
         match request {
-            Request::Triangle { order, number } => return Ok(triangle(order, number)),
+            Request::Triangle { order, number } => {
+                return Ok(Answer::Triangle(triangle(order, number)));
+            }
             Request::Draft { order } => self.draft.reset(order)?,
             Request::Set { point, height } => self.draft.set(point, height)?,
             Request::Measure => self.measure(rt.alloc())?,
@@ -82,15 +85,13 @@ impl Session {
 
     fn list<'s, 'a>(&'s mut self) -> Result<Answer<'s>, Refusal<'a>> {
         let count = self.mesh.index_list(self.vertices.as_flattened_mut())?;
+        // There is room for each triangle that is listed: an index list that has none is refused.
         let listed = count.min(self.vertices.len());
         Ok(Answer::Listed(&self.vertices[..listed]))
     }
 }
 
-// A number of no order has no triangle either.
-fn triangle<'a>(order: u8, number: u32) -> Answer<'a> {
-    let triangle = Order::new(order)
-        .ok()
-        .and_then(|order| order.triangle(number));
-    Answer::Triangle(triangle)
+// A number that is no order has no triangle.
+fn triangle(order: u8, number: u32) -> Option<Triangle> {
+    Order::new(order).ok()?.triangle(number)
 }
