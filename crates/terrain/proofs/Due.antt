@@ -62,9 +62,6 @@ due_upward around n j p t = go (j % 2) refl
     go zero e = due_parent around n (j / 2) p (omega (arith, q)) (inl (subst (λ (i : ℕ). due around n i ≡ true) (let k : j ≡ 2 * (j / 2) = omega arith in k) t))
     go (suc m) e = due_parent around n (j / 2) p (omega (arith, q)) (inr (subst (λ (i : ℕ). due around n i ≡ true) (let k : j ≡ 2 * (j / 2) + 1 = omega arith in k) t))
 
-pub finest_not_due : (around : Option Point) (n i : ℕ) → first_finest n ≤ i → due around n i ≡ false
-finest_not_due around n i p = false_from_ne_true (due around n i) (λ t. omega (arith, due_high around n i t))
-
 -- nothing is due below what is not
 pub none_under : (around : Option Point) (n i : ℕ) → 2 ≤ i → due around n i ≡ false → (k j : ℕ) → j / 2 ^ k ≡ i → due around n j ≡ false
 none_under around n i p f zero j e = subst (λ (m : ℕ). due around n m ≡ false) (sym (self_within j i e)) f

@@ -1,15 +1,13 @@
 -- Filling from a source: the map that it describes, the test of its bounds, and why a map is given exactly if they cover.
-use Rattle.std.proofs.Common.{◌≡◌, ℕ, ◌+◌, ◌*◌, ◌<◌, ◌≤◌, max, Bool, true, false, cond, ◌&&◌, ◌||◌, eqb, ltb, ◌⊎◌, List, [], ◌∷◌, length, get_or, set, sym, refl, ap, ◌∙◌, subst, inl, inr, ⊎_elim, arith}
+use Rattle.std.proofs.Common.{◌≡◌, ℕ, ◌+◌, ◌*◌, ◌<◌, ◌≤◌, max, Bool, true, false, cond, ◌&&◌, ◌||◌, eqb, ltb, ◌⊎◌, List, [], ◌∷◌, get_or, sym, refl, ap, ◌∙◌, subst, inl, inr, ⊎_elim, arith}
 use mathlib.Core.Path.{fun_ext}
-use Rattle.std.proofs.lemmas.List.{get_or-set_same, get_or-set_other}
-use Rattle.std.proofs.lemmas.Bool.{cases_Bool, false_from_ne_true, true_from_ne_false, cases_lt, cases_eq, both_ways, and_left, or_from, or_parts, ltb-false, lt-leb, le-ltb, cond-true, cond-false, eq-eqb, ne_eqb, eqb-true}
+use Rattle.std.proofs.lemmas.Bool.{cases_Bool, false_from_ne_true, true_from_ne_false, cases_lt, both_ways, and_left, or_from, or_parts, ltb-false, lt-leb, le-ltb, cond-true, cond-false, eq-eqb, ne_eqb, eqb-true}
 use Rattle.bintree.specs.declared.point.Point.{Point}
 use Rattle.bintree.specs.declared.point.Corners.{Corners}
 use Rattle.bintree.specs.Orders.{side, end, first_finest, is_triangle, is_splittable}
-use Rattle.bintree.specs.Triangles.{at, corners, centre}
+use Rattle.bintree.specs.Triangles.{corners, centre}
 use Rattle.bintree.specs.Refusals.{given, refused, refusal}
 use Rattle.bintree.proofs.Numbers.{end_twice}
-use Rattle.bintree.proofs.Shape.{point_eq}
 use Rattle.terrain.specs.Heights.{Heights, is_sample}
 use Rattle.terrain.specs.Bounds.{Bounds, apart, offset, limit}
 use Rattle.terrain.specs.Grounds.{Ground}
@@ -139,25 +137,6 @@ module _ (n : ℕ) (z : Heights) (b : Bounds) where
 -- writing row by row: the rows before y stand, and of row y the samples before x; a row has e samples
 abbrev pub Rows : Heights → ℕ → ℕ → ℕ → List ℕ → Type 0
 Rows z e y x zs = (p : Point) → p.x < e → (p.y < y) ⊎ ((p.y ≡ y) × (p.x < x)) → get_or zs (place p) 0 ≡ z p
-
-module _ (z : Heights) (e : ℕ) (small : e ≤ 65) (y : ℕ) where
-  -- one sample more
-  pub rows_put : (zs : List ℕ) (x k v : ℕ) → x < e → y < 65 → length zs ≡ 4225 → k ≡ place (at x y) → v ≡ z (at x y) → Rows z e y x zs → Rows z e y (x + 1) (set zs k v)
-  rows_put zs x k v l m long ek ev f p px pos = ⊎_elim
-      (λ same. let P : Point → Type 0 = λ q. get_or (set zs k v) (place q) 0 ≡ z q in
-      let here : k < length zs = omega arith in
-      subst P (sym same) (ap (λ (j : ℕ). get_or (set zs k v) j 0) (sym ek) ∙ (get_or-set_same zs k v 0 here ∙ ev)))
-      (λ other. get_or-set_other zs k (place p) v 0 (λ q. other (point_eq (omega arith) (omega arith))) ∙ f p px (before other pos))
-      (same_or_not p)
-    where
-      same_or_not : (p : Point) → (p ≡ at x y) ⊎ (p ≡ at x y → ⊥)
-      same_or_not p = ⊎_elim
-          (λ ex. ⊎_elim (λ ey. inl (point_eq ex ey)) (λ ny. inr (λ q. ny (ap (λ (u : Point). u.y) q))) (cases_eq p.y y))
-          (λ nx. inr (λ q. nx (ap (λ (u : Point). u.x) q))) (cases_eq p.x x)
-
-      before : (p ≡ at x y → ⊥) → (p.y < y) ⊎ ((p.y ≡ y) × (p.x < x + 1)) → (p.y < y) ⊎ ((p.y ≡ y) × (p.x < x))
-      before other (inl k) = inl k
-      before other (inr k) = ⊎_elim (λ ex. absurd (other (point_eq ex k.0))) (λ nx. inr (k.0, omega arith)) (cases_eq p.x x)
 
 -- all rows: the heights are the source's
 pub rows_all : (n : ℕ) (z : Heights) (e y : ℕ) (zs : List ℕ) → e ≡ side n + 1 → e ≤ y → Rows z e y 0 zs → heights_in n zs ≡ sampled n z

@@ -9,8 +9,8 @@ use Rattle.terrain.proofs.Fillings.{bounding_splittable, rule_read}
 use Rattle.terrain.proofs.cover.breaks.Goals as goal
 use Rattle.terrain.proofs.cover.breaks.Goals.{After-from-2, at-returns-then-bound-gt-LIMIT, at-returns-else-bound-gt-LIMIT}
 
-pub triangle-t-requires : goal.triangle-t-requires
-triangle-t-requires g c = record { low = c.requires.low; high = omega (arith, end_twice c.args.order.n) }
+pub triangle-t-requires-clause-high : goal.triangle-t-requires-clause-high
+triangle-t-requires-clause-high g c = omega (arith, end_twice c.args.order.n)
 
 -- the test, from what the calls before it answered
 tested : (g : Rattle.terrain.proofs.cover.breaks.Given.Over) (c : After-from-2 g)

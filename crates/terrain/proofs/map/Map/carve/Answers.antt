@@ -10,5 +10,5 @@ invariant_of-self c =
     let k = carving_covers c.args.p c.args.z (map_view m) _ (map_covers m) c.carve.ensures.after in
     record { finest = k.finest; limited = k.limited; above = k.above }
 
-pub returns : goal.returns
-returns c = record { answer = c.carve.ensures.answer; after = c.carve.ensures.after; laws = carve_laws c.args.p c.args.z (map_view c.args.self.now) }
+pub returns-clause-laws : goal.returns-clause-laws
+returns-clause-laws c = carve_laws c.args.p c.args.z (map_view c.args.self.now)

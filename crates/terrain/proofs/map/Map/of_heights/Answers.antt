@@ -9,6 +9,3 @@ invariant_of-result c =
     let n = c.args.order.n in
     let k = subst Covered (sym (measures n c.args.table c.measure.new.self c.measure.ensures.heights c.measure.ensures.bounds)) c.measure.ensures.laws.covers in
     record { finest = k.finest; limited = k.limited; above = k.above }
-
-pub returns : goal.returns
-returns c = record { value = measures c.args.order.n c.args.table c.measure.new.self c.measure.ensures.heights c.measure.ensures.bounds; laws = c.measure.ensures.laws }

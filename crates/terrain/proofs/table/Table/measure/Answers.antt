@@ -13,12 +13,11 @@ settle-requires c =
     let blank = ap (bounds_in n) (c.fill.ensures.items (λ y e. e)) ∙ bounds_blank n _ in
     record { limited = λ i p q. let e = ap (λ (b : Bounds). b i) blank in omega arith }
 
-pub returns : goal.returns
-returns c =
+pub returns-clause-bounds : goal.returns-clause-bounds
+returns-clause-bounds c =
     let n = c.args.order.n in
     let blank = ap (bounds_in n) (c.fill.ensures.items (λ y e. e)) ∙ bounds_blank n _ in
-    record {
-      heights = ap vec_items c.settle.ensures.heights;
-      bounds = ap (λ (v : _). bounds_in n (vec_items v)) c.swap.ensures.x_after ∙ (c.settle.ensures.new ∙ new_measured n _ _ blank);
-      laws = measure_laws _ c.args.order.high (heights_small n _ 65535 c.settle.ensures.small);
-    }
+    ap (λ (v : _). bounds_in n (vec_items v)) c.swap.ensures.x_after ∙ (c.settle.ensures.new ∙ new_measured n _ _ blank)
+
+pub returns-clause-laws : goal.returns-clause-laws
+returns-clause-laws c = measure_laws _ c.args.order.high (heights_small c.args.order.n _ 65535 c.settle.ensures.small)
