@@ -20,7 +20,7 @@ use Rattle.baked.specs.Laws.{Layout, parts, map_in, Holds, FileLaws}
 
 -- a refusal gives nothing
 refused_gives : {A : Type 0} (w : Refusal) (x : A) → refused w ≡ given x → ⊥
-refused_gives w x e = let z : ◌≡◌ {A = ℕ} 0 1 = cc in omega arith
+refused_gives w x e = cc
 
 -- a test that refuses where it hits, and one that refuses where it does not
 past : {A : Type 0} (b : Bool) (w : Refusal) (r : Reply A) (x : A) → cond b (refused w) r ≡ given x → (b ≡ false) × (r ≡ given x)
@@ -35,9 +35,6 @@ met false w r x e = absurd (refused_gives w x e)
 through : {A B : Type 0} (r : Reply A) (next : A → Reply B) (x : B) → passed_to r next ≡ given x → (a : A) × (r ≡ given a) × (next a ≡ given x)
 through (given a) next x e = (a, refl, e)
 through (refused w) next x e = absurd (refused_gives w x e)
-
-given_same : {A : Type 0} (x y : A) → given x ≡ given y → x ≡ y
-given_same x y e = cc
 
 module _ (bs : List ℕ) where
   -- the trailer
@@ -68,7 +65,7 @@ module _ (bs : List ℕ) where
           low = leb-true 1 (order_in bs) o.0;
           high = leb-true (order_in bs) 6 o.1;
         },
-        given_same pointers t d.1,
+        (cc d.1),
       )
 
   trailer_gives : Trailed → reading_trailer bs ≡ given pointers
@@ -96,7 +93,7 @@ module _ (bs : List ℕ) where
       let l = or_parts (ltb (length (front_of bs)) d) (ltb d k) a.0 in
       let far : d ≤ trailer_at bs = omega (arith, front_length, ltb-false (length (front_of bs)) d l.0) in
       let room = ltb-false d k l.1 in
-      (far, room, sym (in_front (trailer_at bs - d) _ k (ap (λ t. t - d) front_length) (omega arith)) ∙ given_same _ p a.1)
+      (far, room, sym (in_front (trailer_at bs - d) _ k (ap (λ t. t - d) front_length) (omega arith)) ∙ (cc a.1))
 
   locating_gives : (w d k h : ℕ) → h + d ≡ trailer_at bs → h + k ≤ trailer_at bs → locating w d k (front_of bs) ≡ given (part h k bs)
   locating_gives w d k h s e =
@@ -161,7 +158,7 @@ module _ (bs : List ℕ) where
         bounds_end = omega (arith, ly.0, ly.1);
         apart = share_apart h (heights_length n) b (bounds_length n) p.0;
       } in
-      subst Out (given_same (parts bs n h b) s p.1) (l, refl)
+      subst Out (let q : parts bs n h b ≡ s = cc p.1 in q) (l, refl)
 
   -- a byte of a section is one of the file
   byte_in : (p k i m : ℕ) → i < k → p + i ≡ m → u8_at (bytes_from p k bs) i ≡ u8_at bs m
