@@ -1,7 +1,7 @@
 // The reader of a baked file, and what it gives: the file's sections, or the map that they hold.
 ghost use Rattle.std.specs.Prelude.{◌≡◌};
 ghost use Rattle.bintree.specs.Refusals.{told};
-ghost use Rattle.terrain.specs.Grounds.{left_by};
+ghost use Rattle.terrain.specs.Grounds.{Does};
 ghost use Rattle.terrain.specs.Views.{map_view};
 ghost use Rattle.baked.specs.Faults.{file_refusal};
 ghost use Rattle.baked.specs.Reading.{reading, loading};
@@ -38,8 +38,7 @@ impl<'a> Reader<'a> {
     // Fills a map with the order, the heights and the bounds of the file; or refusal 1 to 6, and the map stays what it was.
     #[tactic(auto, using(crate::proofs::Files::file_laws))]
     pub fn fill(&self, map: &mut Map) -> Result<(), FileFault>
-        ensures answer { told (λ _. map_view map.new) file_refusal result ≡ loading (file_of self.now) }
-        ensures after { map_view map.new ≡ left_by (loading (file_of self.now)) (map_view map.old) }
+        ensures call { Does (loading (file_of self.now)) file_refusal result (map_view map.old) (map_view map.new) }
         ensures laws { FileLaws (file_of self.now) }
     {
         let sections = self.sections()?;

@@ -1,8 +1,7 @@
 // The third layer: the table of heights and bounds that the sections of a file hold.
 ghost use Rattle.std.specs.Prelude.{◌≡◌};
-ghost use Rattle.bintree.specs.Refusals.{told};
 ghost use Rattle.bintree.specs.Views.{order_value};
-ghost use Rattle.terrain.specs.Grounds.{left_by};
+ghost use Rattle.terrain.specs.Grounds.{Does};
 ghost use Rattle.terrain.specs.Views.{map_view};
 ghost use Rattle.baked.specs.Faults.{table_refusal};
 ghost use Rattle.baked.specs.Format.{heights_held, bounds_held};
@@ -36,8 +35,7 @@ impl Relief for Sections<'_> {
 impl Sections<'_> {
     // Fills a map with the heights and the bounds; or refusal 6.
     pub(crate) fn load(&self, map: &mut Map) -> Result<(), TableFault>
-        ensures answer { told (λ _. map_view map.new) table_refusal result ≡ reading_table (sections_view self.now) }
-        ensures after { map_view map.new ≡ left_by (reading_table (sections_view self.now)) (map_view map.old) }
+        ensures { Does (reading_table (sections_view self.now)) table_refusal result (map_view map.old) (map_view map.new) }
     {
         Ok(map.fill(self.order, self)?)
     }

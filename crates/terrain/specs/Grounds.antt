@@ -1,8 +1,8 @@
 -- What drafts and maps stand for, and what each call on them gives.
-use Rattle.std.specs.Prelude.{ℕ, cond, [], ◌∷◌, Some, None, Option, ◌==◌}
+use Rattle.std.specs.Prelude.{◌≡◌, ℕ, cond, [], ◌∷◌, Some, None, Option, Result, ◌==◌}
 use Rattle.bintree.specs.declared.point.Point.{Point}
 use Rattle.bintree.specs.Orders.{is_order, is_triangle}
-use Rattle.bintree.specs.Refusals.{Reply, given, refused, refusal}
+use Rattle.bintree.specs.Refusals.{Refusal, Reply, given, refused, refusal, told}
 use Rattle.terrain.specs.Heights.{Heights, is_sample, flat, put_height}
 use Rattle.terrain.specs.Bounds.{Bounds, measured}
 use Rattle.terrain.specs.Carving.{carved_bounds, highest_passing}
@@ -66,3 +66,8 @@ height_of g p = cond (is_sample g.order p) (Some (g.heights p)) None
 abbrev pub left_by : {A : Type 0} → Reply A → A → A
 left_by (given a) before = a
 left_by (refused why) before = before
+
+-- A call that works in place does what its definition says: its answer is told by that, and it leaves what that leaves.
+pub record Does {A E U : Type 0} (call : Reply A) (why : E → Refusal) (result : Result U E) (before after : A) : Type 0 where
+  pub answer : told (λ _. after) why result ≡ call
+  pub leaves : after ≡ left_by call before

@@ -1,6 +1,6 @@
 ghost use Rattle.std.specs.Prelude.{◌≡◌, IfOk};
-ghost use Rattle.bintree.specs.Refusals.{told, order_refusal};
-ghost use Rattle.terrain.specs.Grounds.{blank, resetting, setting, measuring, left_by};
+ghost use Rattle.bintree.specs.Refusals.{order_refusal};
+ghost use Rattle.terrain.specs.Grounds.{blank, resetting, setting, measuring, Does};
 ghost use Rattle.terrain.specs.Refusals.{point_refusal};
 ghost use Rattle.terrain.specs.Laws.{MeasureLaws};
 ghost use Rattle.terrain.specs.Views.{draft_view, map_view};
@@ -28,8 +28,7 @@ impl Draft {
 
     // Makes this a draft of the given order with all heights 0; or refusal 7, and nothing changes.
     pub fn reset(&mut self, order: u8) -> Result<(), OrderFault>
-        ensures answer { told (λ _. draft_view self.new) order_refusal result ≡ resetting order }
-        ensures after { draft_view self.new ≡ left_by (resetting order) (draft_view self.old) }
+        ensures { Does (resetting order) order_refusal result (draft_view self.old) (draft_view self.new) }
     {
         let order = Order::new(order)?;
         self.table.heights.fill(0);
@@ -39,8 +38,7 @@ impl Draft {
 
     // Sets the height of one sample; or refusal 8, and nothing changes.
     pub fn set(&mut self, p: Point, z: u16) -> Result<(), PointFault>
-        ensures answer { told (λ _. draft_view self.new) point_refusal result ≡ setting p z (draft_view self.old) }
-        ensures after { draft_view self.new ≡ left_by (setting p z (draft_view self.old)) (draft_view self.old) }
+        ensures { Does (setting p z (draft_view self.old)) point_refusal result (draft_view self.old) (draft_view self.new) }
     {
         let at = place_of(self.order, p)?;
         self.table.heights[at] = z;

@@ -1,7 +1,6 @@
 ghost use Rattle.std.specs.Prelude.{◌≡◌, vec_len};
-ghost use Rattle.bintree.specs.Refusals.{told};
 ghost use Rattle.bintree.specs.Views.{order_value};
-ghost use Rattle.terrain.specs.Grounds.{measuring, carving, left_by, bound_of, height_of};
+ghost use Rattle.terrain.specs.Grounds.{measuring, carving, Does, bound_of, height_of};
 ghost use Rattle.terrain.specs.Refusals.{carve_refusal};
 ghost use Rattle.terrain.specs.Laws.{Covered, Wedge, MeasureLaws, CarveLaws};
 ghost use Rattle.terrain.specs.Views.{map_view, sketch_view};
@@ -52,8 +51,7 @@ impl Map {
     // Sets the height of one sample, and gives every splittable triangle that holds it its offset plus the greater bound of its halves; or
     // refusal 8 or 9, and nothing changes.
     pub fn carve(&mut self, p: Point, z: u16) -> Result<(), CarveFault>
-        ensures answer { told (λ _. map_view self.new) carve_refusal result ≡ carving p z (map_view self.old) }
-        ensures after { map_view self.new ≡ left_by (carving p z (map_view self.old)) (map_view self.old) }
+        ensures call { Does (carving p z (map_view self.old)) carve_refusal result (map_view self.old) (map_view self.new) }
         ensures laws { CarveLaws p z (map_view self.old) }
     {
         self.table.carve(self.order, p, z)

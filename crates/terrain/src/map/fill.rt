@@ -1,7 +1,6 @@
 ghost use Rattle.std.specs.Prelude.{◌≡◌};
-ghost use Rattle.bintree.specs.Refusals.{told};
 ghost use Rattle.bintree.specs.Views.{order_value};
-ghost use Rattle.terrain.specs.Grounds.{left_by};
+ghost use Rattle.terrain.specs.Grounds.{Does};
 ghost use Rattle.terrain.specs.Filling.{filling, cover_refusal, FillLaws};
 ghost use Rattle.terrain.specs.Views.{map_view};
 
@@ -14,8 +13,7 @@ impl Map {
     // Makes this the map of the given order that a source describes, with the source's bounds and not the measured ones; or refusal 6 where
     // they do not cover, and nothing changes.
     pub fn fill<S: Relief>(&mut self, order: Order, source: &S) -> Result<(), CoverFault>
-        ensures answer { told (λ _. map_view self.new) cover_refusal result ≡ filling (order_value order) (S.heights source.now) (S.bounds source.now) }
-        ensures after { map_view self.new ≡ left_by (filling (order_value order) (S.heights source.now) (S.bounds source.now)) (map_view self.old) }
+        ensures call { Does (filling (order_value order) (S.heights source.now) (S.bounds source.now)) cover_refusal result (map_view self.old) (map_view self.new) }
         ensures laws { FillLaws (order_value order) (S.heights source.now) (S.bounds source.now) }
     {
         check(order, source)?;

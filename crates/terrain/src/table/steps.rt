@@ -1,9 +1,8 @@
 // What a draft or a map has its table do.
 ghost use Rattle.std.specs.Prelude.{◌≡◌, ℕ, ◌≤◌, slice_index, replicate, IfOk};
-ghost use Rattle.bintree.specs.Refusals.{told};
 ghost use Rattle.bintree.specs.Views.{order_value};
 ghost use Rattle.terrain.specs.Bounds.{WithinLimit, measured};
-ghost use Rattle.terrain.specs.Grounds.{carving, bound_of, left_by};
+ghost use Rattle.terrain.specs.Grounds.{carving, bound_of, Does};
 ghost use Rattle.terrain.specs.Laws.{MeasureLaws};
 ghost use Rattle.terrain.specs.Refusals.{carve_refusal};
 ghost use Rattle.terrain.specs.Tables.{heights_in, bounds_in};
@@ -70,8 +69,7 @@ impl Table {
     // Carves a sample, or refuses and leaves heights and bounds as they are.
     pub(crate) fn carve(&mut self, order: Order, p: Point, z: u16) -> Result<(), CarveFault>
         requires limited { WithinLimit (order_value order) (bounds_in (order_value order) self.old.bounds.items) }
-        ensures answer { told (λ _. table_view (order_value order) self.new) carve_refusal result ≡ carving p z (table_view (order_value order) self.old) }
-        ensures after { table_view (order_value order) self.new ≡ left_by (carving p z (table_view (order_value order) self.old)) (table_view (order_value order) self.old) }
+        ensures { Does (carving p z (table_view (order_value order) self.old)) carve_refusal result (table_view (order_value order) self.old) (table_view (order_value order) self.new) }
     {
         let at = place_of(order, p)?;
         let before = mem::replace(&mut self.heights[at], z);

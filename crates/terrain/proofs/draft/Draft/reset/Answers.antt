@@ -6,4 +6,4 @@ use Rattle.terrain.proofs.draft.Draft.reset.Goals as goal
 pub returns : goal.returns
 returns c =
     let told = resets c.args.order _ _ _ c.in_ok-order.ensures (c.fill.ensures.items (λ y e. e)) in
-    record { answer = told; after = leaves (draft_view c.args.self.now) told }
+    record { answer = told; leaves = leaves (draft_view c.args.self.now) told }

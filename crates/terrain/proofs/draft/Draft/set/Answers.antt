@@ -10,4 +10,4 @@ returns c =
     let k = c.in_ok-at.ensures in
     let long : length (vec_items d.table.heights) ≡ 4225 = sym d.table.heights.ok.0 ∙ d.table.tall in
     let told = sets d.order.n (vec_items d.table.heights) c.args.p c.args.z c.in_ok-at.at d.order.high long k.0 k.1 in
-    record { answer = told; after = leaves (draft_view d) told }
+    record { answer = told; leaves = leaves (draft_view d) told }

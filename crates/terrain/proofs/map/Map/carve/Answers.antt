@@ -7,7 +7,7 @@ use Rattle.terrain.proofs.map.Map.carve.Goals as goal
 pub invariant_of-self : goal.invariant_of-self
 invariant_of-self c =
     let m = c.args.self.now in
-    let k = carving_covers c.args.p c.args.z (map_view m) _ (map_covers m) c.carve.ensures.after in
+    let k = carving_covers c.args.p c.args.z (map_view m) _ (map_covers m) c.carve.ensures.leaves in
     record { finest = k.finest; limited = k.limited; above = k.above }
 
 pub returns-clause-laws : goal.returns-clause-laws

@@ -25,7 +25,7 @@ returns-in-Some c =
     let told = refuses n (vec_items t.heights) (vec_items t.bounds) c.args.p c.args.z c.in_ok-at.at c.args.order.high long k.0 k.1 _ s.passing.0 s.passing.1 in
     record {
       answer = told;
-      after = (λ i. record { order = n; heights = heights_in n (back i); bounds = bounds_in n (vec_items (s.bounds i)) })
+      leaves = (λ i. record { order = n; heights = heights_in n (back i); bounds = bounds_in n (vec_items (s.bounds i)) })
           ∙ leaves (table_view n t) told;
     }
 
@@ -38,4 +38,4 @@ returns c =
     let s = rw c.replace-before.ensures.after at c.in_default.ensures in
     let told = carves n (vec_items t.heights) (vec_items t.bounds) c.args.p c.args.z c.in_ok-at.at c.args.order.high long k.0 k.1 _ _
     (ap vec_items s.heights) (ap (λ (v : _). bounds_in n (vec_items v)) c.swap.ensures.x_after ∙ s.new) s.passing in
-    record { answer = told; after = leaves (table_view n t) told }
+    record { answer = told; leaves = leaves (table_view n t) told }
