@@ -35,13 +35,19 @@ pub record Higher (a b r : Option ℕ) : Type 0 where
   pub second : or_zero b ≤ or_zero r
   pub either : (r ≡ a) ⊎ (r ≡ b)
 
+is_first : {a b r : Option ℕ} → or_zero b ≤ or_zero a → r ≡ a → Higher a b r
+is_first l e = record { first = omega (arith, ap or_zero e); second = omega (arith, ap or_zero e); either = inl e }
+
+is_second : {a b r : Option ℕ} → or_zero a ≤ or_zero b → r ≡ b → Higher a b r
+is_second l e = record { first = omega (arith, ap or_zero e); second = omega (arith, ap or_zero e); either = inr e }
+
 pub higher : (a b r : Option ℕ) → r ≡ ord_max (option_cmp nat_cmp) a b → Higher a b r
-higher None None r e = record { first = omega (arith, ap or_zero e); second = omega (arith, ap or_zero e); either = inl e }
-higher None (Some y) r e = record { first = omega (arith, ap or_zero e); second = omega (arith, ap or_zero e); either = inr e }
-higher (Some x) None r e = record { first = omega (arith, ap or_zero e); second = omega (arith, ap or_zero e); either = inl e }
+higher None None r e = is_second (omega arith) e
+higher None (Some y) r e = is_second (omega arith) e
+higher (Some x) None r e = is_first (omega arith) e
 higher (Some x) (Some y) r e = ⊎_elim
-    (λ l. let f : r ≡ Some x = rw (lt-ltb y x l) at e in record { first = omega (arith, ap or_zero f); second = omega (arith, ap or_zero f); either = inl f })
-    (λ l. let f : r ≡ Some y = grind (arith, nat_tests) in record { first = omega (arith, ap or_zero f); second = omega (arith, ap or_zero f); either = inr f })
+    (λ l. is_first (omega arith) (rw (lt-ltb y x l) at e))
+    (λ l. is_second l (grind (arith, nat_tests)))
     (cases_lt y x)
 
 module _ (around : Option Point) (n : ℕ) (zs bs : List ℕ) where

@@ -1,4 +1,4 @@
-// Whether the bounds of a source cover its heights.
+// What a source says of a triangle, and whether its bounds cover its heights.
 ghost use Rattle.std.specs.Prelude.{◌≡◌, ◌<◌, ◌≤◌, MatchResult};
 ghost use Rattle.bintree.specs.Orders.{end, first_finest};
 ghost use Rattle.bintree.specs.Views.{order_value, order_of, number_of};

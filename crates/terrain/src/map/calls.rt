@@ -1,4 +1,4 @@
-ghost use Rattle.std.specs.Prelude.{◌≡◌, vec_len};
+ghost use Rattle.std.specs.Prelude.{◌≡◌};
 ghost use Rattle.bintree.specs.Views.{order_value};
 ghost use Rattle.terrain.specs.Grounds.{measuring, carving, Does, bound_of, height_of};
 ghost use Rattle.terrain.specs.Refusals.{carve_refusal};

@@ -1,5 +1,5 @@
 // Writing the heights and the bounds of a source into a table.
-ghost use Rattle.std.specs.Prelude.{◌≡◌, length, vec_len};
+ghost use Rattle.std.specs.Prelude.{◌≡◌, length};
 ghost use Rattle.bintree.specs.Views.{order_value};
 ghost use Rattle.terrain.specs.Filling.{sampled, bounding, described};
 ghost use Rattle.terrain.specs.Tables.{heights_in, bounds_in};

@@ -34,6 +34,7 @@ impl Table {
     }
 
     // Works all bounds that are due out anew, into the scratch room. Answers the highest-numbered triangle whose new bound passes the limit.
+    // That no old bound does is a fact of the bounds and the map's order together, so it is asked for here, and kept by the map.
     fn settle(&mut self, order: Order, around: Option<Point>) -> Option<u32>
         requires limited { WithinLimit (order_value order) (bounds_in (order_value order) self.old.bounds.items) }
         ensures small { (k : ℕ) → slice_index self.old.heights.items k ≤ 65535 }

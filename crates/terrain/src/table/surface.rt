@@ -5,7 +5,8 @@ use crate::relief::Relief;
 use crate::table::places::place;
 use bintree::point::Point;
 
-// The heights and the bounds of a table, lent to be read.
+// The heights and the bounds of a table, lent to be read: a source like any other. That heights are 16-bit numbers is kept as a fact, since a
+// lent list does not say what its numbers fit.
 #[derive(Clone, Copy)]
 pub(crate) struct Surface<'a> {
     pub(crate) heights: &'a [u16],

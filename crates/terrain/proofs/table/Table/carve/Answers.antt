@@ -19,10 +19,10 @@ returns-in-Some c =
     let s = rw c.replace-before.ensures.after at c.in-Some.ensures in
     let at = c.in_ok-at.at in
     let x = c.replace-before.result in
-    let held : x ≡ get_or (vec_items t.heights) at x = c.replace-before.ensures.value ∙ (c.index_mut.ensures.value ∙ ap (get_or (vec_items t.heights) at) (sym c.replace-before.ensures.value)) in
+    let held : x ≡ get_or (vec_items t.heights) at x = cc (c.replace-before.ensures.value, c.index_mut.ensures.value) in
     let back : set (vec_items c.settle.new.self.heights) at x ≡ vec_items t.heights
     = ap (λ (v : _). set (vec_items v) at x) s.heights ∙ put_back (vec_items t.heights) at c.args.z x held in
-    let told = refuses n (vec_items t.heights) (vec_items t.bounds) c.args.p c.args.z c.in_ok-at.at c.args.order.high long k.0 k.1 _ s.passing.0 s.passing.1 in
+    let told = refuses n (vec_items t.heights) (vec_items t.bounds) c.args.p c.args.z at c.args.order.high long k.0 k.1 _ s.passing.0 s.passing.1 in
     record {
       answer = told;
       leaves = (λ i. record { order = n; heights = heights_in n (back i); bounds = bounds_in n (vec_items (s.bounds i)) })
