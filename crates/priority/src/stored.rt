@@ -19,7 +19,7 @@ impl<'a> Policy for Stored<'a> {
 
     ghost number = { λ p. stored_of (map_view p.map.now) };
 
-    ghost keeps = { λ p. stored_keeps (map_view p.map.now) p.map.now.order.low p.map.now.order.high p.map.now.limited p.map.now.above };
+    ghost keeps = { λ p. stored_keeps (map_view p.map.now) p.map.now.table.order.low p.map.now.table.order.high p.map.now.limited p.map.now.above };
 
     fn order(&self) -> Order {
         self.map.order()

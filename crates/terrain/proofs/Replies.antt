@@ -13,7 +13,7 @@ use Rattle.terrain.specs.Bounds.{Bounds, measured}
 use Rattle.terrain.specs.Carving.{carved_bounds, highest_passing}
 use Rattle.terrain.specs.Grounds.{Sketch, Ground, blank, resetting, setting, measuring, carved, carving_to, carving, bound_of, height_of, left_by}
 use Rattle.terrain.specs.declared.table.Table.{Table}
-use Rattle.terrain.specs.Views.{table_view, sketch_view}
+use Rattle.terrain.specs.Views.{sketch_view}
 use Rattle.terrain.specs.Tables.{place, heights_in, bounds_in}
 use Rattle.terrain.specs.Working.{new_bounds}
 use Rattle.terrain.proofs.Highest.{triangle_low, triangle_high}
@@ -88,7 +88,12 @@ module _ (n : ℕ) (hs bs : List ℕ) (p : Point) (h at : ℕ) (six : n ≤ 6) (
   refuses r l q = sym (cond-false (eqb r 0) (given (carved p h before)) (refused (refusal 9 (r ∷ []))) (ne_eqb r 0 (λ z. omega arith)))
       ∙ (ap (carving_to (carved p h before)) q ∙ answers)
 
--- measuring, from the table that it leaves
-pub measures : (n : ℕ) (t u : Table) → vec_items u.heights ≡ vec_items t.heights → bounds_in n (vec_items u.bounds) ≡ measured n (heights_in n (vec_items t.heights))
-    → table_view n u ≡ measuring (sketch_view n t)
-measures n t u e f = λ i. record { order = n; heights = heights_in n (e i); bounds = f i }
+-- measuring, from the order and the lists that the table is left with
+pub measures : (t : Table) (o : Order) (zs bs : List ℕ) → o ≡ t.order → zs ≡ vec_items t.heights
+    → bounds_in t.order.n bs ≡ measured t.order.n (heights_in t.order.n (vec_items t.heights))
+    → record { order = o.n; heights = heights_in o.n zs; bounds = bounds_in o.n bs } ≡ measuring (sketch_view t)
+measures t o zs bs q e f = λ i. record {
+  order = (q i).n;
+  heights = heights_in (q i).n (e i);
+  bounds = (ap (λ (p : Order). bounds_in p.n bs) q ∙ f) i;
+}

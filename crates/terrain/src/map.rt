@@ -3,7 +3,6 @@ ghost use Rattle.terrain.specs.Bounds.{FinestZero, WithinLimit, AboveHalves};
 ghost use Rattle.terrain.specs.Tables.{heights_in, bounds_in};
 
 use crate::table::Table;
-use bintree::order::Order;
 
 pub mod calls;
 pub mod fill;
@@ -12,9 +11,8 @@ pub mod fill;
 // its end.
 #[derive(Drop)]
 pub struct Map {
-    order: Order,
     table: Table,
-    ghost finest: { FinestZero (order_value order) (bounds_in (order_value order) table.bounds.items) },
-    ghost limited: { WithinLimit (order_value order) (bounds_in (order_value order) table.bounds.items) },
-    ghost above: { AboveHalves (order_value order) (heights_in (order_value order) table.heights.items) (bounds_in (order_value order) table.bounds.items) },
+    ghost finest: { FinestZero (order_value table.order) (bounds_in (order_value table.order) table.bounds.items) },
+    ghost limited: { WithinLimit (order_value table.order) (bounds_in (order_value table.order) table.bounds.items) },
+    ghost above: { AboveHalves (order_value table.order) (heights_in (order_value table.order) table.heights.items) (bounds_in (order_value table.order) table.bounds.items) },
 }

@@ -1,5 +1,7 @@
 ghost use Rattle.std.specs.Prelude.{◌≡◌, vec_len};
 
+use bintree::order::Order;
+
 mod fill;
 pub(crate) mod places;
 mod settle;
@@ -13,10 +15,11 @@ const SAMPLES: usize = 4225;
 
 const TRIANGLES: usize = 16384;
 
-// The memory of a draft or a map, of the same size at every order: heights in rows of 65, bounds by triangle number, and room in which
-// new bounds are worked out before they take the place of the old ones.
+// What a draft or a map holds: its order, and memory that is of the same size at every order: heights in rows of 65, bounds by triangle
+// number, and room in which new bounds are worked out before they take the place of the old ones.
 #[derive(Drop)]
 pub(crate) struct Table {
+    pub(crate) order: Order,
     pub(crate) heights: Vec<u16>,
     pub(crate) bounds: Vec<u32>,
     pub(crate) scratch: Vec<u32>,

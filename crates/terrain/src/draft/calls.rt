@@ -21,9 +21,9 @@ impl Draft {
     pub fn new(heap: Global) -> Result<Draft, AllocError>
         ensures { IfOk result (λ d. draft_view d ≡ blank 1) }
     {
-        let table = Table::new(heap)?;
-        let order = Order::new(1).unwrap();
-        Ok(Draft { order, table })
+        Ok(Draft {
+            table: Table::new(heap)?,
+        })
     }
 
     // Makes this a draft of the given order with all heights 0; or refusal 7, and nothing changes.
@@ -32,7 +32,7 @@ impl Draft {
     {
         let order = Order::new(order)?;
         self.table.heights.fill(0);
-        self.order = order;
+        self.table.order = order;
         Ok(())
     }
 
@@ -40,7 +40,7 @@ impl Draft {
     pub fn set(&mut self, p: Point, z: u16) -> Result<(), PointFault>
         ensures { Does (setting p z (draft_view self.old)) point_refusal result (draft_view self.old) (draft_view self.new) }
     {
-        let at = place_of(self.order, p)?;
+        let at = place_of(self.table.order, p)?;
         self.table.heights[at] = z;
         Ok(())
     }
@@ -50,7 +50,6 @@ impl Draft {
         ensures value { map_view result ≡ measuring (draft_view self) }
         ensures laws { MeasureLaws (draft_view self) }
     {
-        let Draft { order, table } = self;
-        Map::of_heights(order, table)
+        Map::of_heights(self.table)
     }
 }

@@ -14,26 +14,26 @@ use bintree::point::Point;
 
 impl Map {
     // The map of the heights in a table, with the measured bounds.
-    pub(crate) fn of_heights(order: Order, mut table: Table) -> Map
-        ensures value { map_view result ≡ measuring (sketch_view (order_value order) table) }
-        ensures laws { MeasureLaws (sketch_view (order_value order) table) }
+    pub(crate) fn of_heights(mut table: Table) -> Map
+        ensures value { map_view result ≡ measuring (sketch_view table) }
+        ensures laws { MeasureLaws (sketch_view table) }
     {
-        table.measure(order);
-        Map { order, table }
+        table.measure();
+        Map { table }
     }
 
     // The order of the map's square.
     pub fn order(&self) -> Order
         ensures { order_value result ≡ (map_view self.now).order }
     {
-        self.order
+        self.table.order
     }
 
     // The height of a sample; none where the point is no sample.
     pub fn height(&self, p: Point) -> Option<u16>
         ensures { result ≡ height_of (map_view self.now) p }
     {
-        place_of(self.order, p)
+        place_of(self.table.order, p)
             .ok()
             .map(|at| self.table.heights[at])
     }
@@ -45,7 +45,7 @@ impl Map {
         ensures covers { Covered (map_view self.now) }
         ensures wedge { Wedge (map_view self.now) }
     {
-        self.table.bound(self.order, number)
+        self.table.bound(number)
     }
 
     // Sets the height of one sample, and gives every splittable triangle that holds it its offset plus the greater bound of its halves; or
@@ -54,6 +54,6 @@ impl Map {
         ensures call { Does (carving p z (map_view self.old)) carve_refusal result (map_view self.old) (map_view self.new) }
         ensures laws { CarveLaws p z (map_view self.old) }
     {
-        self.table.carve(self.order, p, z)
+        self.table.carve(p, z)
     }
 }

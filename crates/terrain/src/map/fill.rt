@@ -18,7 +18,6 @@ impl Map {
     {
         check(order, source)?;
         self.table.fill(order, source);
-        self.order = order;
         Ok(())
     }
 }

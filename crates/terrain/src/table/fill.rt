@@ -38,9 +38,10 @@ fn fill_bounds<S: Relief>(table: &mut [u32], order: Order, source: &S)
 impl Table {
     // Puts the heights and the bounds that a source gives at this order in the place of those that are there.
     pub(crate) fn fill<S: Relief>(&mut self, order: Order, source: &S)
-        ensures { table_view (order_value order) self.new ≡ described (order_value order) (S.heights source.now) (S.bounds source.now) }
+        ensures { table_view self.new ≡ described (order_value order) (S.heights source.now) (S.bounds source.now) }
     {
         fill_heights(self.heights.as_mut_slice(), order, source);
         fill_bounds(self.bounds.as_mut_slice(), order, source);
+        self.order = order;
     }
 }

@@ -9,5 +9,5 @@ returns c =
     let d = c.args.self.now in
     let k = c.in_ok-at.ensures in
     let long : length (vec_items d.table.heights) ≡ 4225 = sym d.table.heights.ok.0 ∙ d.table.tall in
-    let told = sets d.order.n (vec_items d.table.heights) c.args.p c.args.z c.in_ok-at.at d.order.high long k.0 k.1 in
+    let told = sets d.table.order.n (vec_items d.table.heights) c.args.p c.args.z c.in_ok-at.at d.table.order.high long k.0 k.1 in
     record { answer = told; leaves = leaves (draft_view d) told }

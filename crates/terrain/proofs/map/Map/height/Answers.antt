@@ -12,7 +12,7 @@ use Rattle.terrain.proofs.map.Map.height.Goals as goal
 pub returns : goal.returns
 returns c =
     let m = c.args.self.now in
-    let n = m.order.n in
+    let n = m.table.order.n in
     let at = if_given _ _ _ _ c.ok.ensures.value c.place_of.ensures in
     mapped c.ok.result c.map.result _ _ c.map.ensures.cases
     (λ e. let k = MatchOption-at_none _ _ e at in sym (cond-false (is_sample n c.args.p) _ _ k.1.0))

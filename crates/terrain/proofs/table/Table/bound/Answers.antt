@@ -16,10 +16,10 @@ map-requires c = grind (arith, triangle_high, end_bound)
 
 pub returns : goal.returns
 returns c =
-    let n = c.args.order.n in
+    let n = c.args.self.now.order.n in
     let t = c.args.self.now in
     mapped c.triangle.result c.map.result _ _ c.map.ensures.cases
     (λ e. sym (cond-false (is_triangle n c.args.number) _ _ (MatchOption-at_none _ _ e c.triangle.ensures)))
     (λ i b e q. let k = MatchOption-at_some _ _ i e c.triangle.ensures in
-    let l : c.args.number < vec_len t.bounds = omega (arith, triangle_high n c.args.number k.0, end_bound n c.args.order.high) in
+    let l : c.args.number < vec_len t.bounds = omega (arith, triangle_high n c.args.number k.0, end_bound n c.args.self.now.order.high) in
     reads_bound n (heights_in n (vec_items t.heights)) (vec_items t.bounds) c.args.number b k.0 (search (rules, get_or_read)))
