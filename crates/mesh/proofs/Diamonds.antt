@@ -1,4 +1,4 @@
--- Diamonds as the code finds them: by the partner's number, 0 for none.
+-- Diamonds as the code finds them: by a triangle and its partner, if it has one.
 use Rattle.std.proofs.Common.{◌≡◌, ℕ, ◌/◌, ◌<◌, ◌≤◌, Bool, true, false, Some, None, Option, sym, refl, ap, ◌∙◌, arith, MatchOption, IsTrue}
 use Rattle.std.proofs.lemmas.Bool.{and_from, eq-eqb, ne_eqb, le-leb, lt-ltb}
 use Rattle.bintree.specs.declared.triangle.Triangle.{Triangle}

@@ -1,5 +1,6 @@
 -- The refusals of the calls on a mesh, and which fault of the code is which.
-use Rattle.std.specs.Prelude.{ℕ, [], ◌∷◌}
+use Rattle.std.specs.Prelude.{ℕ, List, [], ◌∷◌, ◌++◌, codes}
+use Rattle.std.specs.Fmt.{decimal}
 use Rattle.bintree.specs.Refusals.{Refusal, refusal}
 use Rattle.mesh.specs.declared.fault.SplitFault.{SplitFault}
 use Rattle.mesh.specs.declared.fault.SplitFault.TheVariants.{Absent, Finest}
@@ -38,3 +39,14 @@ merge_refusal f = not_mergeable f.triangle
 -- Which refusal a fault of a listing is.
 abbrev pub list_refusal : ListFault → Refusal
 list_refusal f = too_short f.places
+
+-- What the faults print: the refusal, its number and its value.
+abbrev pub split_text : SplitFault → List ℕ
+split_text (Absent i) = codes "refused 11 triangle " ++ decimal i
+split_text (Finest i) = codes "refused 12 triangle " ++ decimal i
+
+abbrev pub merge_text : MergeFault → List ℕ
+merge_text f = codes "refused 13 triangle " ++ decimal f.triangle
+
+abbrev pub list_text : ListFault → List ℕ
+list_text f = codes "refused 16 places " ++ decimal f.places

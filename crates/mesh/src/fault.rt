@@ -24,6 +24,11 @@ pub struct ListFault {
 }
 
 impl fmt::Display for SplitFault {
+    ghost use Rattle.std.specs.Prelude.{Some};
+    ghost use Rattle.mesh.specs.Faults.{split_text};
+
+    ghost output = { λ f. Some (split_text f) };
+
     fn fmt<W: fmt::Write>(&self, f: &mut fmt::Formatter<W>) -> fmt::Result {
         match self {
             SplitFault::Absent(i) => write!(f, "refused 11 triangle {i}"),
@@ -33,12 +38,22 @@ impl fmt::Display for SplitFault {
 }
 
 impl fmt::Display for MergeFault {
+    ghost use Rattle.std.specs.Prelude.{Some};
+    ghost use Rattle.mesh.specs.Faults.{merge_text};
+
+    ghost output = { λ f. Some (merge_text f) };
+
     fn fmt<W: fmt::Write>(&self, f: &mut fmt::Formatter<W>) -> fmt::Result {
         write!(f, "refused 13 triangle {}", self.triangle)
     }
 }
 
 impl fmt::Display for ListFault {
+    ghost use Rattle.std.specs.Prelude.{Some};
+    ghost use Rattle.mesh.specs.Faults.{list_text};
+
+    ghost output = { λ f. Some (list_text f) };
+
     fn fmt<W: fmt::Write>(&self, f: &mut fmt::Formatter<W>) -> fmt::Result {
         write!(f, "refused 16 places {}", self.places)
     }
