@@ -67,7 +67,8 @@ impl Table {
         ensures { result ≡ bound_of (table_view self.now) number }
     {
         self.order
-            .triangle(number).map(|_| self.bounds[number as usize])
+            .triangle(number)
+            .map(|_| self.bounds[number as usize])
     }
 
     // Carves a sample, or refuses and leaves heights and bounds as they are.

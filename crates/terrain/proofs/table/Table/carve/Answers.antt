@@ -44,6 +44,6 @@ returns c =
     let long : length (vec_items t.heights) ≡ 4225 = sym t.heights.ok.0 ∙ t.tall in
     let s = rw c.replace-before.ensures.after at c.in_default.ensures in
     let told = ap (held c.settle.new.self.heights c.swap.new.x) s.order
-        ∙ carves n (vec_items t.heights) (vec_items t.bounds) c.args.p c.args.z c.in_ok-at.at c.args.self.now.order.high long k.0 k.1 _ _
-        (ap vec_items s.heights) (ap (λ (v : _). bounds_in n (vec_items v)) c.swap.ensures.x_after ∙ s.new) s.passing in
+    ∙ carves n (vec_items t.heights) (vec_items t.bounds) c.args.p c.args.z c.in_ok-at.at c.args.self.now.order.high long k.0 k.1 _ _
+    (ap vec_items s.heights) (ap (λ (v : _). bounds_in n (vec_items v)) c.swap.ensures.x_after ∙ s.new) s.passing in
     record { answer = told; leaves = leaves (table_view t) told }
