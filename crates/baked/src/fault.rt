@@ -1,5 +1,5 @@
 // Why a file is refused: a fault for each layer of the reader, those of the inner layers inside those of the outer ones. What a fault prints is its
-// refusal: the number, and what comes with it.
+// refusal: the number, and what comes with it. (The impls are written out, and not derived by thiserror, since each says what it gives.)
 ghost use Rattle.std.specs.Prelude.{◌≡◌, Some};
 ghost use Rattle.baked.specs.declared.fault.TrailerFault.TheVariants.{Order as OrderCase};
 ghost use Rattle.baked.specs.declared.fault.TableFault.TheVariants.{Uncovered as UncoveredCase};

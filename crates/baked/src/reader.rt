@@ -12,7 +12,8 @@ use crate::sections::Sections;
 use crate::trailer::Trailer;
 use terrain::map::Map;
 
-// A baked file that is lent: the reader holds its bytes alone.
+// A baked file that is lent: the reader holds its bytes alone. (It has no `Model`: one that is copied must give its fields back, and a list of bytes does not give
+// the loan of them.)
 #[derive(Clone, Copy)]
 pub struct Reader<'a> {
     bytes: &'a [u8],

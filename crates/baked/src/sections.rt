@@ -56,7 +56,7 @@ fn heights_length(order: Order) -> usize
     2 * (row * row)
 }
 
-#[tactic(auto, using(crate::proofs::Lengths::from_two))]
+#[tactic(auto, using(bintree::proofs::Sizes::from_two))]
 fn bounds_length(order: Order) -> usize
     ensures { result ≡ bounds_length (order_value order) }
 {

@@ -1,6 +1,6 @@
 -- The bridge by triangle numbers, in the words of the definitions, from the bridge over the trees.
 use Rattle.std.proofs.Common.{◌≡◌, ℕ, suc, ◌+◌, ◌*◌, ◌/◌, ◌^◌, ◌<◌, ◌≤◌, Bool, true, false, T, ◌⊎◌, sym, refl, ap, ◌∙◌, subst, inl, inr, arith, Some, None, Option}
-use Rattle.std.proofs.lemmas.Bool.{both_ways, cases_eq}
+use Rattle.std.proofs.lemmas.Bool.{both_ways, cases_eq, false_from_ne_true}
 use Rattle.bintree.specs.declared.point.Point.{Point}
 use Rattle.bintree.specs.declared.point.Corners.{Corners}
 use Rattle.bintree.specs.Orders.{end, first_finest}
@@ -16,7 +16,7 @@ use Rattle.bintree.proofs.Inside.{settled}
 use Rattle.bintree.proofs.Cracks.{Mesh, Closed, crack_free_closed, closed_crack_free}
 use Rattle.bintree.proofs.Cracks as tree
 use Rattle.bintree.proofs.Numbers.{node, num_node, num_from_two, num_injective, node_num, corners_is, end_is, first_finest_is, triangle_of_depth, at_most, within, under}
-use Rattle.bintree.proofs.Partners.{num_near, not_so, partner_is}
+use Rattle.bintree.proofs.Partners.{num_near, partner_is}
 
 -- a flag as a fact, and back
 T_true : {b : Bool} → b ≡ true → T b
@@ -96,7 +96,7 @@ module _ (n : ℕ) (P : Triangles) (M : IsMesh n P) where
   of_splits : (t : Node) → tree.Splits (By P) t → Splits P (num t)
   of_splits t s = record {
     triangle = num_from_two t;
-    absent = not_so (P (num t)) (λ h. s.out (T_true h));
+    absent = false_from_ne_true (P (num t)) (λ h. s.out (T_true h));
     below = num s.below;
     present = true_t _ s.inside;
     within = within t s.below s.under;

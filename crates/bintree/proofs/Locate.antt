@@ -70,7 +70,7 @@ single q3 x y v a l r p h = go (nothing_or_all (a + l + r) x v.x r p (omega arit
     go (inl e) (inr f) = inl (omega arith)
 
 -- with all its weight at one corner, the point is that corner
-sole : (a l r v p q s : ℕ) → 0 < a + l + r → l ≡ 0 → r ≡ 0 → (a + l + r) * v ≡ a * p + l * q + r * s → v ≡ p
+pub sole : (a l r v p q s : ℕ) → 0 < a + l + r → l ≡ 0 → r ≡ 0 → (a + l + r) * v ≡ a * p + l * q + r * s → v ≡ p
 sole a l r v p q s h e f g =
     let k : (a + 0 + 0) * v ≡ a * p + 0 * q + 0 * s = subst₂ (λ (l r : ℕ). (a + l + r) * v ≡ a * p + l * q + r * s) e f g in
     eq_of_mul-eq-mul_left a (omega arith) v p (omega arith)

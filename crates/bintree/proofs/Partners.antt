@@ -2,7 +2,7 @@
 -- recursion over the trees finds. That it is the only one follows from the centre lemma, in the square of twice the side, where every base has a whole middle.
 use Rattle.std.proofs.Common.{◌≡◌, ℕ, zero, suc, ◌*◌, ◌^◌, ◌<◌, ◌≤◌, Bool, true, false, ◌&&◌, eqb, ◌⊎◌, sym, refl, ap, ◌∙◌, subst, ap₂, inl, inr, arith, Some, None, Option}
 use Rattle.std.specs.Option.{option_map, unwrap_or}
-use Rattle.std.proofs.lemmas.Bool.{cases_eq, and_parts, and_from, or_cases, or_left, or_right, not-true, not_from_false, eqb-true, eqb-false, eq-eqb, ne_eqb, leb-true, le-leb, ltb-true, lt-ltb}
+use Rattle.std.proofs.lemmas.Bool.{cases_eq, and_parts, and_from, or_cases, or_left, or_right, not-true, not_from_false, eqb-true, eqb-false, eq-eqb, ne_eqb, leb-true, le-leb, ltb-true, lt-ltb, false_from_ne_true}
 use Rattle.std.proofs.lemmas.Option.{same_Some, none-some}
 use Rattle.bintree.specs.declared.point.Point.{Point}
 use Rattle.bintree.specs.declared.point.Corners.{Corners}
@@ -100,10 +100,6 @@ after_found : (b r : ℕ) (y : Bool) → 0 < r → after b r y ≡ r
 after_found b zero y h = absurd (omega arith)
 after_found b (suc r) y h = subst (λ (c : Bool). elim c [ false ↦ suc r | true ↦ elim y [ true ↦ b | false ↦ 0 ] ] ≡ suc r) (sym (ne_eqb (suc r) 0 (λ e. omega arith))) refl
 
-pub not_so : (b : Bool) → (b ≡ true → ⊥) → b ≡ false
-not_so true h = absurd (h refl)
-not_so false h = refl
-
 lowest_none : (f : ℕ → Bool) (b : ℕ) → ((j : ℕ) → j < b → f j ≡ false) → lowest f b ≡ 0
 lowest_none f zero h = refl
 lowest_none f (suc b) h = ap₂ (after b) (lowest_none f b (λ j l. h j (omega arith))) (h b (omega arith))
@@ -114,7 +110,7 @@ lowest_one f (suc b) j pos y one l = go (cases_eq j b) (lowest_one f b j pos y o
   where
     go : (j ≡ b) ⊎ (j ≡ b → ⊥) → (j < b → lowest f b ≡ j) → lowest f (suc b) ≡ j
     go (inl e) ih =
-        let z : lowest f b ≡ 0 = lowest_none f b (λ k l. not_so (f k) (λ t. omega (arith, one k t))) in
+        let z : lowest f b ≡ 0 = lowest_none f b (λ k l. false_from_ne_true (f k) (λ t. omega (arith, one k t))) in
         let y' : f b ≡ true = rw e at y in
         ap₂ (after b) z y' ∙ sym e
     go (inr ne) ih =
@@ -181,7 +177,7 @@ unfolding partner
 partner_is n i l u = go (around (node i)).base refl
   where
     go : (z : Option Node) → (around (node i)).base ≡ z → lowest (partners n i) (end n) ≡ num_near z
-    go None e = lowest_none (partners n i) (end n) (λ j h. not_so (partners n i j) (λ t.
+    go None e = lowest_none (partners n i) (end n) (λ j h. false_from_ne_true (partners n i j) (λ t.
         none-some (node j) (sym e ∙ from_partner n (node i) (node j) (depth_of_triangle n i l u) (partners_true n i j t).4)))
     go (Some t) e =
         let p = to_partner n (node i) t e in

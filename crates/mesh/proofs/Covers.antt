@@ -7,9 +7,10 @@ use Rattle.std.proofs.lemmas.Bool.{cases_Bool, cases_lt, cases_order, both_ways,
 use Rattle.bintree.specs.Orders.{first_finest}
 use Rattle.bintree.specs.Meshes.{Triangles, Within, IsMesh, Splits}
 use Rattle.bintree.proofs.Numbers.{end_twice}
+use Rattle.bintree.proofs.Sizes.{from_two}
 use Rattle.forest.specs.SplitSets.{Set, Closed, Present, mesh}
 use Rattle.forest.proofs.Sums.{mesh_true, mesh_is, mesh_within}
-use Rattle.mesh.proofs.Square.{square, first_from_two}
+use Rattle.mesh.proofs.Square.{square}
 use Rattle.mesh.proofs.Ancestors.{above, above_is, above_add, above_le, finest_below}
 
 -- i lies in a triangle of P; k bounds the way up
@@ -146,13 +147,13 @@ module _ (n : ℕ) (P : Triangles) (m : IsMesh n P) where
       inside i q (inr h) = absurd (go (or_cases (ltb i 4) _ (and_parts (not (split_set n P i)) _ (and_parts (leb 2 i) _ q).1).1))
         where
           go : (ltb i 4 ≡ true) ⊎ (split_set n P (i / 2) ≡ true) → ⊥
-          go (inl s) = omega (arith, ltb-true i 4 s, first_from_two n)
+          go (inl s) = omega (arith, ltb-true i 4 s, from_two n)
           go (inr s) = omega (arith, (split_parts (i / 2) s).1)
 
 -- the mesh of a closed set
 module _ (n : ℕ) (S : Set) (c : Closed (square n) S) where
   present_is : (i : ℕ) → mesh (square n) S i ≡ true → Present (square n) S i
-  present_is i t = mesh_is (square n) S i (mesh_within (square n) S (first_from_two n) c i t) t
+  present_is i t = mesh_is (square n) S i (mesh_within (square n) S (from_two n) c i t) t
 
   -- S has with a triangle all triangles above it
   ancestors : (k y : ℕ) → S y ≡ true → 2 ≤ above k y → S (above k y) ≡ true
@@ -190,7 +191,7 @@ module _ (n : ℕ) (S : Set) (c : Closed (square n) S) where
   mesh_covers = record {
     triangles = λ i t. let r = (present_is i t).range in omega (arith, r, end_twice n);
     some_one = λ f h.
-        let r = climb (suc f) f (omega arith) (omega (arith, h.0, first_from_two n)) (omega (arith, h.1, end_twice n)) (false_from_ne_true (S f) (λ s. omega (arith, h.0, c.range f s))) in
+        let r = climb (suc f) f (omega arith) (omega (arith, h.0, from_two n)) (omega (arith, h.1, end_twice n)) (false_from_ne_true (S f) (λ s. omega (arith, h.0, c.range f s))) in
         (above r.0 f, mesh_true (square n) S (above r.0 f) r.1, (r.0, sym (above_is r.0 f)));
     only_one = λ f i j h p q a b.
         let x : above a.0 f ≡ i = above_is a.0 f ∙ a.1 in

@@ -7,6 +7,7 @@ use Rattle.bintree.specs.Orders.{end, first_finest}
 use Rattle.bintree.specs.Triangles.{partner}
 use Rattle.bintree.specs.Meshes.{Triangles}
 use Rattle.bintree.proofs.Numbers.{end_twice}
+use Rattle.bintree.proofs.Sizes.{from_two}
 use Rattle.forest.specs.Forests.{Lawful}
 use Rattle.forest.specs.SplitSets.{Set, none, Closed, Present, Ready, Forced, Mergeable, Unsplit, mesh, add, del, merged}
 use Rattle.forest.proofs.Basics.{from_low, from_high, from_partner}
@@ -16,7 +17,7 @@ use Rattle.forest.proofs.Sums.{mesh_true, mesh_is, mesh_within}
 use Rattle.forest.proofs.Forcing.{parent_ready, before_same, before_forced, alone, paired, forced_same, shallow}
 use Rattle.forest.proofs.Merging.{no_half}
 use Rattle.mesh.specs.Sets.{halve, rejoin, holder_at, holder, split_deep, split, halves_in, mergeable, merge}
-use Rattle.mesh.proofs.Square.{square, square_lawful, first_from_two}
+use Rattle.mesh.proofs.Square.{square, square_lawful}
 
 -- a choice by a partner, and by a test
 abbrev pub by_partner : {A : Type 0} → ℕ → A → A → A
@@ -87,7 +88,7 @@ module _ (n : ℕ) where
 
   module _ (S : Set) (c : Closed (square n) S) where
     pub present_in : (i : ℕ) → mesh (square n) S i ≡ true → Present (square n) S i
-    present_in i t = mesh_is (square n) S i (mesh_within (square n) S (first_from_two n) c i t) t
+    present_in i t = mesh_is (square n) S i (mesh_within (square n) S (from_two n) c i t) t
 
     -- a present triangle that is not finest
     module _ (i : ℕ) (q : Present (square n) S i) (u : i < first_finest n) where

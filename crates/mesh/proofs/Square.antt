@@ -6,14 +6,12 @@ use Rattle.bintree.proofs.Tree.{Node, two, three, lo, hi, num, depth, by_powers}
 use Rattle.bintree.proofs.Around.{lo?, hi?, around, across_base}
 use Rattle.bintree.proofs.Numbers.{node, num_node, num_from_two, node_num, at_most, end_twice, first_finest_is, depth_of_splittable, splittable_of_depth}
 use Rattle.bintree.proofs.Partners.{num_near, to_partner, partner_is}
+use Rattle.bintree.proofs.Sizes.{from_two}
 use Rattle.forest.specs.Forests.{Forest, Lawful}
 
 -- the forest of the square of order n
 abbrev pub square : ℕ → Forest
 square n = record { roots = 2; finest = first_finest n; partner = partner n }
-
-pub first_from_two : (n : ℕ) → 2 ≤ first_finest n
-first_from_two n = omega (arith, first_finest_is n, pow_pos (2 * n))
 
 -- a partner, as a neighbour in the trees
 record Across (n i : ℕ) : Type 0 where
@@ -123,7 +121,7 @@ module _ (n : ℕ) where
   pub square_lawful : Lawful (square n)
   square_lawful = record {
     some = omega arith;
-    room = first_from_two n;
+    room = from_two n;
     inside = partner_inside;
     other = partner_differs;
     back = partner_back;

@@ -67,8 +67,8 @@ fn merges_by_either_triangle(rt: HostRuntime) -> Result<(), Fail> {
 fn refuses(rt: HostRuntime) -> Result<(), Fail> {
     let mut mesh = Mesh::new(rt.alloc())?;
     split_all(&mut mesh, &[2, 4])?;
-    assert!(rt; matches!(mesh.reset(0), Err(OrderFault { order: 0 })));
-    assert!(rt; matches!(mesh.reset(7), Err(OrderFault { order: 7 })));
+    assert_eq!(rt; mesh.reset(0), Err(OrderFault { order: 0 }));
+    assert_eq!(rt; mesh.reset(7), Err(OrderFault { order: 7 }));
     for i in [0, 1, 4, 10, 16, 4294967295] {
         assert_eq!(rt; mesh.split(i), Err(SplitFault::Absent(i)));
     }

@@ -7,7 +7,8 @@ use bintree::order::Order;
 use plan::spot::Rectangle;
 use policy::policy::Policy;
 
-// A window laid over a policy: a triangle whose bounding box has no point in the closed rectangle has 0, any other the policy's number.
+// A window laid over a policy: a triangle whose bounding box has no point in the closed rectangle has 0, any other the policy's number. (Not one type with
+// `SightLine` over a test that is handed in: what a closure answers is no number that a ghost member could name.)
 #[derive(Clone, Copy)]
 pub struct Window<P> {
     pub below: P,

@@ -15,7 +15,7 @@ use Rattle.bintree.proofs.Shape.{point_eq}
 use Rattle.bintree.proofs.Middles.{mean_left, mean_right, mean_centre}
 use Rattle.bintree.proofs.Inside.{inside, mean_inside}
 use Rattle.bintree.proofs.Laws.{whole_centre, turning, inside_decides, sample_laws}
-use Rattle.bintree.proofs.Locate.{Single, CentreIn, locate}
+use Rattle.bintree.proofs.Locate.{Single, CentreIn, locate, sole}
 use Rattle.terrain.specs.Carving.{holds_sample, reached}
 use Rattle.terrain.proofs.Measuring.{is_split}
 
@@ -76,25 +76,19 @@ in_square s (hi t) = let w = in_square s t in record { ax = omega arith; ay = om
 pub corners_in_square : (n i : ℕ) → InSquare (2 ^ n) (corners n i)
 corners_in_square n i = subst (InSquare (2 ^ n)) (sym (corners_is n i)) (in_square (2 ^ n) (node i))
 
--- all the weight is at one corner, on one axis
-all_at_one : (a l r v p q s : ℕ) → 0 < a + l + r → l ≡ 0 → r ≡ 0 → (a + l + r) * v ≡ a * p + l * q + r * s → v ≡ p
-all_at_one a l r v p q s h e f g =
-    let k : (a + 0 + 0) * v ≡ a * p + 0 * q + 0 * s = subst₂ (λ (l r : ℕ). (a + l + r) * v ≡ a * p + l * q + r * s) e f g in
-    eq_of_mul-eq-mul_left a (omega arith) v p (omega arith)
-
 -- all the weight is at one corner of t, and v is that corner
 abbrev pub AtCorner : Point → Corners → ℕ → ℕ → ℕ → Type 0
 AtCorner v t a l r = ((v ≡ t.apex) × (l ≡ 0) × (r ≡ 0)) ⊎ ((v ≡ t.left) × (a ≡ 0) × (r ≡ 0)) ⊎ ((v ≡ t.right) × (a ≡ 0) × (l ≡ 0))
 
 at_corner : (t : Corners) (v : Point) (a l r : ℕ) → 0 < a + l + r → Mean v t a l r → Single a l r → AtCorner v t a l r
-at_corner t v a l r w h (inl e) = inl (point_eq (all_at_one a l r _ _ _ _ w e.0 e.1 h.on_x) (all_at_one a l r _ _ _ _ w e.0 e.1 h.on_y), e.0, e.1)
+at_corner t v a l r w h (inl e) = inl (point_eq (sole a l r _ _ _ _ w e.0 e.1 h.on_x) (sole a l r _ _ _ _ w e.0 e.1 h.on_y), e.0, e.1)
 at_corner t v a l r w h (inr (inl e)) = inr (inl (
-  point_eq (all_at_one l a r _ _ t.apex.x t.right.x (omega arith) e.0 e.1 (omega arith)) (all_at_one l a r _ _ t.apex.y t.right.y (omega arith) e.0 e.1 (omega arith)),
+  point_eq (sole l a r _ _ t.apex.x t.right.x (omega arith) e.0 e.1 (omega arith)) (sole l a r _ _ t.apex.y t.right.y (omega arith) e.0 e.1 (omega arith)),
   e.0,
   e.1,
 ))
 at_corner t v a l r w h (inr (inr e)) = inr (inr (
-  point_eq (all_at_one r a l _ _ t.apex.x t.left.x (omega arith) e.0 e.1 (omega arith)) (all_at_one r a l _ _ t.apex.y t.left.y (omega arith) e.0 e.1 (omega arith)),
+  point_eq (sole r a l _ _ t.apex.x t.left.x (omega arith) e.0 e.1 (omega arith)) (sole r a l _ _ t.apex.y t.left.y (omega arith) e.0 e.1 (omega arith)),
   e.0,
   e.1,
 ))

@@ -12,7 +12,7 @@ use bintree::triangle::Triangle;
 // No bound of a map passes this.
 pub(crate) const LIMIT: u32 = 16_777_215;
 
-// The triangle of a number that is known to be one.
+// The triangle of a number that is known to be one. (`bintree` has such a function inside; a public one would have a condition that callers must meet.)
 pub(crate) fn triangle(order: Order, number: u32) -> Triangle
     requires low { 2 ≤ number }
     requires high { number < end (order_value order) }

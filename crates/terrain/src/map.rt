@@ -8,7 +8,7 @@ pub mod calls;
 pub mod fill;
 
 // An order, a height for each of its samples, and a bound for each of its triangles. The bounds cover the heights, from the map's making to
-// its end.
+// its end. (It has no `Model`: what it stands for has functions in it, of points and of numbers, and a value may not.)
 #[derive(Drop)]
 pub struct Map {
     table: Table,

@@ -7,7 +7,8 @@ use crate::fault::OrderFault;
 use crate::order::Order;
 
 impl Order {
-    // The order n, or refusal 7 with n.
+    // The order n, or refusal 7 with n. (A constructor with a test, as that of std's `NonZero`, and not a conversion: a refusal names the raw number, so the calls
+    // above take one too.)
     pub fn new(n: u8) -> Result<Order, OrderFault>
         ensures { told order_value order_refusal result ≡ ordering n }
     {
@@ -32,7 +33,7 @@ impl Order {
         1 << self.n
     }
 
-    // The lowest number of a finest triangle.
+    // The lowest number of a finest triangle. (It is half of `end`; the exponent is all that differs, and the names say what the numbers are.)
     pub fn first_finest(self) -> u32
         ensures value { result ≡ first_finest (order_value self) }
         ensures bound { result ≤ 8192 }

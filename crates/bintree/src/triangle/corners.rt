@@ -18,6 +18,7 @@ fn middle(p: Point, q: Point) -> Point
     }
 }
 
+// The corners of the halves. (Two functions, as two definitions: which corners stay is their whole content.)
 fn low_half(t: Corners) -> Corners
     ensures { result ≡ low_half t }
 {

@@ -10,7 +10,8 @@ use std::alloc::{AllocError, Global};
 // How many flags a set has: as many as order 6, the greatest, has triangle numbers.
 const FLAGS: usize = 16384;
 
-// A set of triangles of one square: a flag for each triangle number.
+// A set of triangles of one square: a flag for each triangle number. (A set of std's takes memory as it grows, and a mesh takes its memory once. That a triangle is
+// splittable stays a condition of the steps: a type for one inequality would have all of Triangle's methods again.)
 #[derive(Drop)]
 pub(super) struct TriangleSet {
     flags: Vec<bool>,
