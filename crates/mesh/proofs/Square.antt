@@ -1,10 +1,10 @@
 -- One terrain square as a forest: roots 2 and 3, and the partner of the definition. Its laws come from the trees: the partner is the neighbour across the base.
-use Rattle.std.proofs.Common.{◌≡◌, ℕ, zero, suc, ◌*◌, ◌/◌, ◌^◌, ◌<◌, ◌≤◌, ◌⊎◌, sym, refl, ap, ◌∙◌, inl, inr, arith, pow_pos, pow_mono, Some, None, Option}
+use Rattle.std.proofs.Common.{◌≡◌, ℕ, zero, suc, ◌*◌, ◌/◌, ◌^◌, ◌<◌, ◌≤◌, ◌⊎◌, sym, refl, ap, ◌∙◌, inl, inr, arith, pow_mono, Some, None, Option}
 use Rattle.bintree.specs.Orders.{first_finest}
 use Rattle.bintree.specs.Triangles.{partner}
 use Rattle.bintree.proofs.Tree.{Node, two, three, lo, hi, num, depth, by_powers}
 use Rattle.bintree.proofs.Around.{lo?, hi?, around, across_base}
-use Rattle.bintree.proofs.Numbers.{node, num_node, num_from_two, node_num, at_most, end_twice, first_finest_is, depth_of_splittable, splittable_of_depth}
+use Rattle.bintree.proofs.Numbers.{node, num_node, num_from_two, node_num, at_most, end_twice, depth_of_splittable, splittable_of_depth}
 use Rattle.bintree.proofs.Partners.{num_near, to_partner, partner_is}
 use Rattle.bintree.proofs.Sizes.{from_two}
 use Rattle.forest.specs.Forests.{Forest, Lawful}

@@ -1,8 +1,7 @@
 -- Samples and triangles, by number: the test that carving makes is whether the sample lies in the closed triangle; what a half holds, its parent
 -- holds; a splittable triangle holds the three samples that its offset is made of, and all corners are samples; a finest triangle holds nothing
 -- but its corners.
-use Rattle.std.proofs.Common.{◌≡◌, ℕ, ◌+◌, ◌*◌, ◌^◌, ◌<◌, ◌≤◌, Bool, true, ◌⊎◌, Decides, sym, refl, ap, subst, subst₂, inl, inr, ⊎_elim, arith}
-use native.Mathlib.Nat.{eq_of_mul-eq-mul_left}
+use Rattle.std.proofs.Common.{◌≡◌, ℕ, ◌+◌, ◌*◌, ◌^◌, ◌<◌, ◌≤◌, Bool, true, ◌⊎◌, Decides, sym, refl, ap, subst, inl, inr, ⊎_elim, arith}
 use Rattle.std.proofs.lemmas.Bool.Decides.{same_from_decides}
 use Rattle.bintree.specs.declared.point.Point.{Point}
 use Rattle.bintree.specs.declared.point.Corners.{Corners}

@@ -2,6 +2,7 @@
 use crate::draft::Draft;
 use crate::fault::{CarveFault, PointFault};
 use crate::map::Map;
+use bintree::fault::OrderFault;
 use bintree::point::Point;
 use std::process::Abort;
 use std::test::Fail;
@@ -37,8 +38,7 @@ fn the_small_map(rt: HostRuntime) -> Result<(), Fail> {
 fn no_order(rt: HostRuntime) -> Result<(), Fail> {
     let mut draft = Draft::new(rt.alloc())?;
     for order in [0, 7, 255] {
-        let refused = draft.reset(order).err();
-        assert_eq!(rt; refused.map(|fault| fault.order), Some(order));
+        assert_eq!(rt; draft.reset(order), Err(OrderFault { order }));
     }
     Ok(())
 }
