@@ -33,7 +33,7 @@ impl Order {
         1 << self.n
     }
 
-    // The lowest number of a finest triangle. (It is half of `end`; the exponent is all that differs, and the names say what the numbers are.)
+    // The lowest number of a finest triangle.
     pub fn first_finest(self) -> u32
         ensures value { result ≡ first_finest (order_value self) }
         ensures bound { result ≤ 8192 }
@@ -41,11 +41,11 @@ impl Order {
         1 << (2 * self.n + 1)
     }
 
-    // The number past the last triangle.
+    // The number past the last triangle: the finest are as many as all others and the two numbers that are no triangle.
     pub fn end(self) -> u32
         ensures value { result ≡ end_of (order_value self) }
         ensures bound { result ≤ 16384 }
     {
-        1 << (2 * self.n + 2)
+        2 * self.first_finest()
     }
 }

@@ -1,7 +1,7 @@
 // Where triangles lie: corners, centres and bounding boxes.
 ghost use Rattle.std.specs.Prelude.{◌≡◌, ◌+◌, ◌*◌, ◌/◌, ◌<◌, ◌≤◌, true, false, MatchOption};
 ghost use Rattle.bintree.specs.Orders.{first_finest};
-ghost use Rattle.bintree.specs.Triangles.{middle as middle_of, centre as centre_of, low_half, high_half, root_at};
+ghost use Rattle.bintree.specs.Triangles.{middle as middle_of, centre as centre_of, root_at};
 ghost use Rattle.bintree.specs.Samples.{box};
 ghost use Rattle.bintree.specs.Laws.{CornerLaws, SameCentre, BoxesNest};
 ghost use Rattle.bintree.specs.Views.{order_value, order_of, number_of, corners_of};
@@ -15,27 +15,6 @@ fn middle(p: Point, q: Point) -> Point
     Point {
         x: ((u64::from(p.x) + u64::from(q.x)) / 2) as u32,
         y: ((u64::from(p.y) + u64::from(q.y)) / 2) as u32,
-    }
-}
-
-// The corners of the halves. (Two functions, as two definitions: which corners stay is their whole content.)
-fn low_half(t: Corners) -> Corners
-    ensures { result ≡ low_half t }
-{
-    Corners {
-        apex: middle(t.left, t.right),
-        left: t.apex,
-        right: t.left,
-    }
-}
-
-fn high_half(t: Corners) -> Corners
-    ensures { result ≡ high_half t }
-{
-    Corners {
-        apex: middle(t.left, t.right),
-        left: t.right,
-        right: t.apex,
     }
 }
 
@@ -67,10 +46,15 @@ impl Triangle {
             }
             Some(parent) => {
                 let whole = parent.corners();
-                if self.number % 2 == 0 {
-                    low_half(whole)
+                let (left, right) = if self.number % 2 == 0 {
+                    (whole.apex, whole.left)
                 } else {
-                    high_half(whole)
+                    (whole.right, whole.apex)
+                };
+                Corners {
+                    apex: middle(whole.left, whole.right),
+                    left,
+                    right,
                 }
             }
         }

@@ -15,21 +15,6 @@ struct Neighbours {
     right: Option<u32>,
 }
 
-// The number of the low half of triangle i, and of the high one. (Two functions, so that `map` takes each by its name.)
-fn low(i: u32) -> u32
-    requires { i < 32768 }
-    ensures { result ≡ 2 * i }
-{
-    2 * i
-}
-
-fn high(i: u32) -> u32
-    requires { i < 32768 }
-    ensures { result ≡ 2 * i + 1 }
-{
-    2 * i + 1
-}
-
 impl Triangle {
     // The neighbours of a half are its twin and halves of its parent's neighbours.
     fn neighbours(self) -> Neighbours
@@ -46,14 +31,14 @@ impl Triangle {
         let up = parent.neighbours();
         if self.number % 2 == 0 {
             Neighbours {
-                base: up.left.map(high),
+                base: up.left.map(|i| 2 * i + 1),
                 left: Some(self.number + 1),
-                right: up.base.map(high),
+                right: up.base.map(|i| 2 * i + 1),
             }
         } else {
             Neighbours {
-                base: up.right.map(low),
-                left: up.base.map(low),
+                base: up.right.map(|i| 2 * i),
+                left: up.base.map(|i| 2 * i),
                 right: Some(self.number - 1),
             }
         }

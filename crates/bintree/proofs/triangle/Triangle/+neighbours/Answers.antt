@@ -18,16 +18,16 @@ mapped f P h (Some x) None m = absurd m
 mapped f P h (Some x) (Some y) m = ap Some (h x y m)
 
 pub map-requires : goal.map-requires
-map-requires t c = small c.args.self.order.n c.args.self.number _ _ (omega arith) (omega arith) (omega (arith, c.in-Some.ensures)) c.neighbours-up.ensures.bound.left
+map-requires t c x e = let s = small c.args.self.order.n c.args.self.number _ _ (omega arith) (omega arith) (omega (arith, c.in-Some.ensures)) c.neighbours-up.ensures.bound.left x e in ((λ _. omega (arith, s)), (λ _. omega (arith, s)))
 
 pub map-requires-then-self-eq0 : goal.map-requires-then-self-eq0
-map-requires-then-self-eq0 t c = small c.args.self.order.n c.args.self.number _ _ (omega arith) (omega arith) (omega (arith, c.in-Some.ensures)) c.neighbours-up.ensures.bound.base
+map-requires-then-self-eq0 t c x e = let s = small c.args.self.order.n c.args.self.number _ _ (omega arith) (omega arith) (omega (arith, c.in-Some.ensures)) c.neighbours-up.ensures.bound.base x e in ((λ _. omega (arith, s)), (λ _. omega (arith, s)))
 
 pub map-requires-else-self-eq0 : goal.map-requires-else-self-eq0
-map-requires-else-self-eq0 t c = small c.args.self.order.n c.args.self.number _ _ (omega arith) (omega arith) (omega (arith, c.in-Some.ensures)) c.neighbours-up.ensures.bound.right
+map-requires-else-self-eq0 t c x e = let s = small c.args.self.order.n c.args.self.number _ _ (omega arith) (omega arith) (omega (arith, c.in-Some.ensures)) c.neighbours-up.ensures.bound.right x e in λ _. omega (arith, s)
 
 pub map-requires-else-self-eq0-2 : goal.map-requires-else-self-eq0-2
-map-requires-else-self-eq0-2 t c = small c.args.self.order.n c.args.self.number _ _ (omega arith) (omega arith) (omega (arith, c.in-Some.ensures)) c.neighbours-up.ensures.bound.base
+map-requires-else-self-eq0-2 t c x e = let s = small c.args.self.order.n c.args.self.number _ _ (omega arith) (omega arith) (omega (arith, c.in-Some.ensures)) c.neighbours-up.ensures.bound.base x e in λ _. omega (arith, s)
 
 pub returns-in_default-clause-value : goal.returns-in_default-clause-value
 returns-in_default-clause-value t c = neighbours_root c.args.self.number (omega arith) c.in_default.ensures
