@@ -3,14 +3,13 @@ use Rattle.std.proofs.Common.{◌≡◌, ℕ, zero, suc, ◌+◌, ◌-◌, ◌*�
 use Rattle.std.specs.Option.{option_map, unwrap_or}
 use Rattle.std.proofs.lemmas.Bool.{cases_lt, and_from, le-leb, lt-ltb, le-ltb, eq-eqb, ne_eqb}
 use Rattle.std.proofs.lemmas.Option.{none-some, same_Some}
-use Rattle.bintree.specs.declared.point.Corners.{Corners}
 use Rattle.bintree.specs.declared.triangle.neighbours.Neighbours.{Neighbours}
 use Rattle.bintree.specs.Orders.{side, end, is_triangle}
-use Rattle.bintree.specs.Triangles.{low_half, high_half, root_two, root_three, corners, partners, partner}
+use Rattle.bintree.specs.Triangles.{root_two, root_three, corners, partners, partner}
 use Rattle.bintree.specs.Neighbours.{around_root, low_of, high_of, around_half, neighbours_at, neighbours}
 use Rattle.bintree.proofs.Tree.{Node, two, three, lo, hi, num}
 use Rattle.bintree.proofs.Around.{lo?, hi?, around}
-use Rattle.bintree.proofs.Numbers.{node, num_node, num_from_two, corners_low, corners_high}
+use Rattle.bintree.proofs.Numbers.{node, num_node, num_from_two}
 use Rattle.bintree.proofs.Partners.{partner_is, partners_true, partner_laws}
 
 -- corners
@@ -21,16 +20,6 @@ corners_two n s i e f = ap root_two f ∙ sym (ap (corners n) e)
 pub corners_three : (n s i : ℕ) → i ≡ 3 → s ≡ side n → root_three s ≡ corners n i
 unfolding corners
 corners_three n s i e f = ap root_three f ∙ sym (ap (corners n) e)
-
-pub corners_even : (n i m j : ℕ) (t : Corners) → 4 ≤ i → i % 2 ≡ 0 → m ≡ n → j ≡ i / 2 → t ≡ corners m j → low_half t ≡ corners n i
-corners_even n i m j t h z e f g =
-    let k : 2 * j ≡ i = omega arith in
-    ap low_half (g ∙ ap (λ (o : ℕ). corners o j) e) ∙ (sym (corners_low n j (omega arith)) ∙ ap (corners n) k)
-
-pub corners_odd : (n i m j : ℕ) (t : Corners) → 4 ≤ i → (i % 2 ≡ 0 → ⊥) → m ≡ n → j ≡ i / 2 → t ≡ corners m j → high_half t ≡ corners n i
-corners_odd n i m j t h z e f g =
-    let k : 2 * j + 1 ≡ i = omega arith in
-    ap high_half (g ∙ ap (λ (o : ℕ). corners o j) e) ∙ (sym (corners_high n j (omega arith)) ∙ ap (corners n) k)
 
 -- one step of the recursion
 abbrev pick : Bool → ℕ → Neighbours → Neighbours

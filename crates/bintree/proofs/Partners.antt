@@ -118,7 +118,7 @@ lowest_one f (suc b) j pos y one l = go (cases_eq j b) (lowest_one f b j pos y o
         ap₂ (after b) z refl ∙ after_found b j (f b) pos
 
 -- partners by their tests are partners in the trees
-same_point_true : (p q : Point) → same_point p q ≡ true → p ≡ q
+pub same_point_true : (p q : Point) → same_point p q ≡ true → p ≡ q
 same_point_true p q h = let a = and_parts _ _ h in point_eq (eqb-true _ _ a.0) (eqb-true _ _ a.1)
 
 same_point_from : (p q : Point) → p ≡ q → same_point p q ≡ true

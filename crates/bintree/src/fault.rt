@@ -3,7 +3,7 @@ ghost use Rattle.std.specs.Prelude.{Some};
 use std::error::Error;
 use std::fmt;
 
-// The order that was asked for is none: refusal 7.
+// The order that was asked for is none: refusal 7. (Its Display is written out, and not derived by thiserror, since what it prints is stated.)
 #[derive(Clone, Copy, PartialEq, Eq, Debug)]
 pub struct OrderFault {
     pub order: u8,

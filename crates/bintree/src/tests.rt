@@ -8,7 +8,7 @@ fn triangle(order: u8, number: u32) -> Option<Triangle> {
     Order::new(order).ok()?.triangle(number)
 }
 
-// The number of a triangle's partner, 0 for none.
+// The number of a triangle's partner, 0 for none, as the definition has it.
 fn partner(order: u8, number: u32) -> Option<u32> {
     let partner = triangle(order, number)?.partner();
     Some(partner.map_or(0, Triangle::number))

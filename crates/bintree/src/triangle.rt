@@ -8,7 +8,7 @@ pub mod family;
 pub mod neighbours;
 pub mod samples;
 
-// A triangle of a square: the square's order, and the triangle's number there.
+// A triangle of a square: the square's order, and the triangle's number there. (No `Model`, as its order has none.)
 #[derive(Clone, Copy)]
 pub struct Triangle {
     order: Order,

@@ -1,4 +1,5 @@
-// Why a call on a mesh is refused. What a fault prints is its refusal: the number, and the values.
+// Why a call on a mesh is refused. What a fault prints is its refusal: the number, and the values. (The impls are written
+// out, and not derived by thiserror, since what they print is stated.)
 use std::error::Error;
 use std::fmt;
 

@@ -14,7 +14,8 @@ mod reading;
 mod triangle_set;
 
 // A crack-free mesh of a terrain square: the square's order, and the triangles that are present. They cover the square, do not overlap, and no corner of one
-// lies within an edge of another. (It has no `Model`: it stands for a set, a function of numbers, and a value may not be one.)
+// lies within an edge of another. (It has no `Model`: it stands for a set as a function of numbers, the words of the
+// geometry. As a finite set, which a value may be, each clause would have to turn it into that function first.)
 #[derive(Drop)]
 pub struct Mesh {
     order: Order,

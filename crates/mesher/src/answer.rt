@@ -55,6 +55,7 @@ fn write_triangle<W: fmt::Write>(f: &mut fmt::Formatter<W>, t: Triangle) -> fmt:
         l.y,
         r.x,
         r.y,
+        // A script reads 0 where there is none.
         t.partner().map_or(0, Triangle::number)
     )
 }

@@ -10,7 +10,7 @@ pub enum Camera {
     Overhead { focal: f32 },
 }
 
-// The first field that is not a number, infinite or out of range: refusal 10.
+// The first field that is not a number, infinite or out of range: refusal 10. (Its Display is written out, and not derived, since what it prints is stated.)
 #[derive(Clone, Copy, PartialEq, Eq, Debug)]
 pub enum CameraFault {
     EyeX,

@@ -29,6 +29,7 @@ impl<'a> Policy for CameraRule<'a> {
         let Some(t) = self.map.order().triangle(triangle) else {
             return 0;
         };
+        // `map_or` was tried: what its closure answers is not found to be what a lens shows.
         match self.map.bound(triangle) {
             Some(bound) => self.lens.seen(bound, t),
             None => 0,

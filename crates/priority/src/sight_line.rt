@@ -7,7 +7,8 @@ use bintree::order::Order;
 use plan::spot::Line;
 use policy::policy::Policy;
 
-// A line laid over a policy: a triangle whose closed plan meets the closed line has the highest priority, any other the policy's number.
+// A line laid over a policy: a triangle whose closed plan meets the closed line has the highest priority, any other the policy's number. (Not one type with `Window`:
+// see there.)
 #[derive(Clone, Copy)]
 pub struct SightLine<P> {
     pub below: P,

@@ -1,13 +1,13 @@
 -- What carving one sample does to the bounds. A triangle that does not hold the sample has the offset that it had, since it holds the three samples
 -- that its offset is made of, and its halves do not hold the sample either: so its bound, which is kept, covers as it did, and is measured if it was.
 use Rattle.std.proofs.Common.{◌≡◌, ℕ, ◌+◌, ◌*◌, ◌<◌, ◌≤◌, max, Bool, true, false, eqb, ◌⊎◌, sym, ap, ◌∙◌, subst, inl, inr, ⊎_elim, arith}
-use Rattle.std.proofs.lemmas.Bool.{cases_Bool, false_from_ne_true, cases_eq, both_ways, and_parts, and_from, and_left, and_right, eqb-true, ne_eqb, cond-true, cond-false}
+use Rattle.std.proofs.lemmas.Bool.{cases_Bool, false_from_ne_true, cases_eq, both_ways, and_parts, and_from, and_left, and_right, ne_eqb, cond-true, cond-false}
 use Rattle.bintree.specs.declared.point.Point.{Point}
 use Rattle.bintree.specs.declared.point.Corners.{Corners}
 use Rattle.bintree.specs.Orders.{end, first_finest, is_splittable}
 use Rattle.bintree.specs.Triangles.{corners, centre, same_point}
 use Rattle.bintree.proofs.Numbers.{end_twice}
-use Rattle.bintree.proofs.Shape.{point_eq}
+use Rattle.bintree.proofs.Partners.{same_point_true}
 use Rattle.terrain.specs.Heights.{Heights, is_sample, put_height}
 use Rattle.terrain.specs.Bounds.{Bounds, offset, limit, AboveHalves, Covers, measured}
 use Rattle.terrain.specs.Carving.{holds_sample, reached, carved_bounds, highest_passing}
@@ -18,14 +18,10 @@ use Rattle.terrain.proofs.Measuring.{splittable_low, splittable_high, is_split, 
 use Rattle.terrain.proofs.Holding.{held_decides, half_held, base_held}
 use Rattle.terrain.proofs.Highest.{none_passing, highest_is, no_passing}
 
--- the test whether two points are one
-pub one_point : (p q : Point) → same_point p q ≡ true → p ≡ q
-one_point p q t = let k = and_parts (eqb p.x q.x) (eqb p.y q.y) t in point_eq (eqb-true _ _ k.0) (eqb-true _ _ k.1)
-
 -- one height is put: elsewhere the heights are as they were
 pub put_other : (p : Point) (h : ℕ) (z : Heights) (q : Point) → (q ≡ p → ⊥) → put_height p h z q ≡ z q
 unfolding put_height
-put_other p h z q ne = cond-false (same_point q p) h (z q) (false_from_ne_true (same_point q p) (λ t. ne (one_point q p t)))
+put_other p h z q ne = cond-false (same_point q p) h (z q) (false_from_ne_true (same_point q p) (λ t. ne (same_point_true q p t)))
 
 -- the test of a triangle that carving reaches
 pub reached_splittable : (n : ℕ) (p : Point) (i : ℕ) → reached n p i ≡ true → is_splittable n i ≡ true

@@ -8,10 +8,11 @@ use Rattle.bintree.specs.Orders.{end, is_triangle}
 use Rattle.bintree.specs.Triangles.{same_point}
 use Rattle.bintree.proofs.Sizes.{side_bound}
 use Rattle.bintree.proofs.Shape.{point_eq}
+use Rattle.bintree.proofs.Partners.{same_point_true}
 use Rattle.terrain.specs.Heights.{Heights, is_sample, flat, put_height}
 use Rattle.terrain.specs.Tables.{place, heights_in, bounds_in}
 use Rattle.terrain.proofs.Highest.{is_tri}
-use Rattle.terrain.proofs.Carvings.{one_point, put_other}
+use Rattle.terrain.proofs.Carvings.{put_other}
 
 -- the test of a sample
 pub sample_x : (n : ℕ) (p : Point) → is_sample n p ≡ true → p.x ≤ 2 ^ n
@@ -83,7 +84,7 @@ heights_set n zs p h at six s long e =
         → heights_in n (set zs (place p) h) q ≡ put_height p h (heights_in n zs) q
     reads q k (inl t) =
         let P : Point → Type 0 = λ u. heights_in n (set zs (place p) h) u ≡ put_height p h (heights_in n zs) u in
-        subst P (sym (one_point q p t)) (height_at n (set zs (place p) h) p s ∙ (get_or-set_same zs (place p) h 0 within ∙ sym (put_here p h (heights_in n zs))))
+        subst P (sym (same_point_true q p t)) (height_at n (set zs (place p) h) p s ∙ (get_or-set_same zs (place p) h 0 within ∙ sym (put_here p h (heights_in n zs))))
     reads q (inl k) (inr f) =
         height_at n (set zs (place p) h) q k
         ∙ (get_or-set_other zs (place p) (place q) h 0 (λ e. apart_from q f (place_apart n p q six s k e)) ∙ (sym (height_at n zs q k) ∙ sym (put_other p h (heights_in n zs) q (apart_from q f))))

@@ -1,7 +1,8 @@
-// What a source says of a triangle, and whether its bounds cover its heights.
+// What a source says of a triangle, and whether its bounds cover its heights. (An order and a source are handed on as two: a source answers at any order, and a
+// struct of both would be taken apart again in each of these functions.)
 ghost use Rattle.std.specs.Prelude.{◌≡◌, ◌<◌, ◌≤◌, MatchResult};
 ghost use Rattle.bintree.specs.Orders.{end, first_finest};
-ghost use Rattle.bintree.specs.Views.{order_value, order_of, number_of};
+ghost use Rattle.bintree.specs.Views.{order_value, order_of, number_of, Is};
 ghost use Rattle.terrain.specs.Bounds.{offset as triangle_offset};
 ghost use Rattle.terrain.specs.Filling.{sampled, bounding, described, breaks_rule, lowest_breaking};
 
@@ -16,8 +17,7 @@ pub(crate) const LIMIT: u32 = 16_777_215;
 pub(crate) fn triangle(order: Order, number: u32) -> Triangle
     requires low { 2 ≤ number }
     requires high { number < end (order_value order) }
-    ensures order { order_of result ≡ order_value order }
-    ensures number { number_of result ≡ number }
+    ensures { Is result (order_value order) number }
 {
     order.triangle(number).unwrap()
 }

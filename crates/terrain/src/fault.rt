@@ -4,7 +4,7 @@ use bintree::point::Point;
 use std::error::Error;
 use std::fmt;
 
-// The point is no sample: refusal 8.
+// The point is no sample: refusal 8. (The faults' impls are written out, and not derived by thiserror, since each says what it gives.)
 #[derive(Clone, Copy, Debug, PartialEq, Eq)]
 pub struct PointFault {
     pub point: Point,

@@ -8,7 +8,8 @@ pub mod calls;
 pub mod fill;
 
 // An order, a height for each of its samples, and a bound for each of its triangles. The bounds cover the heights, from the map's making to
-// its end. (It has no `Model`: what it stands for has functions in it, of points and of numbers, and a value may not.)
+// its end. (It has no `Model`: it stands for heights
+// and bounds as functions of points and of numbers. As finite maps, which a value may be, each clause would have to turn them into these functions first.)
 #[derive(Drop)]
 pub struct Map {
     table: Table,

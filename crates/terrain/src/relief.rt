@@ -20,7 +20,8 @@ pub trait Relief {
         ensures { result ≡ bounds self.now number };
 }
 
-// The bounds of a source do not cover its heights: refusal 6, with the lowest-numbered triangle whose bound breaks a rule.
+// The bounds of a source do not cover its heights: refusal 6, with the lowest-numbered triangle whose bound breaks a rule. (Its Display is written out, since what
+// it prints is stated. A file's reader has a fault of its own for this, as for each of its layers.)
 #[derive(Clone, Copy, Debug, PartialEq, Eq)]
 pub struct CoverFault {
     pub triangle: u32,

@@ -7,8 +7,7 @@ use crate::fault::OrderFault;
 use crate::order::Order;
 
 impl Order {
-    // The order n, or refusal 7 with n. (A constructor with a test, as that of std's `NonZero`, and not a conversion: a refusal names the raw number, so the calls
-    // above take one too.)
+    // The order n, or refusal 7 with n. (A constructor with a test, as that of std's `NonZero`: `try_from` would say no more.)
     pub fn new(n: u8) -> Result<Order, OrderFault>
         ensures { told order_value order_refusal result ≡ ordering n }
     {

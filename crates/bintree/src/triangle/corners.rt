@@ -1,10 +1,10 @@
 // Where triangles lie: corners, centres and bounding boxes.
-ghost use Rattle.std.specs.Prelude.{◌≡◌, ◌+◌, ◌*◌, ◌/◌, ◌<◌, ◌≤◌, true, false, MatchOption};
+ghost use Rattle.std.specs.Prelude.{◌≡◌, ◌+◌, ◌*◌, ◌/◌, ◌<◌, ◌≤◌, MatchOption};
 ghost use Rattle.bintree.specs.Orders.{first_finest};
 ghost use Rattle.bintree.specs.Triangles.{middle as middle_of, centre as centre_of, root_at};
 ghost use Rattle.bintree.specs.Samples.{box};
 ghost use Rattle.bintree.specs.Laws.{CornerLaws, SameCentre, BoxesNest};
-ghost use Rattle.bintree.specs.Views.{order_value, order_of, number_of, corners_of};
+ghost use Rattle.bintree.specs.Views.{order_of, number_of, corners_of};
 
 use crate::point::{BoundingBox, Corners, Point};
 use crate::triangle::Triangle;
@@ -13,8 +13,8 @@ fn middle(p: Point, q: Point) -> Point
     ensures { result ≡ middle_of p q }
 {
     Point {
-        x: ((u64::from(p.x) + u64::from(q.x)) / 2) as u32,
-        y: ((u64::from(p.y) + u64::from(q.y)) / 2) as u32,
+        x: p.x.midpoint(q.x),
+        y: p.y.midpoint(q.y),
     }
 }
 

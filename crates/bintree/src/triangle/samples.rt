@@ -2,7 +2,7 @@
 ghost use Rattle.std.specs.Prelude.{◌≡◌, ◌+◌, ◌*◌, ◌^◌, ◌<◌, ◌≤◌, [], ◌∷◌, Decides, nat_le};
 ghost use Rattle.bintree.specs.Samples.{rising as rising_of, falling as falling_of, way, LiesIn};
 ghost use Rattle.bintree.specs.Laws.{SampleLaws};
-ghost use Rattle.bintree.specs.Views.{order_of, number_of, corners_of};
+ghost use Rattle.bintree.specs.Views.{order_of, corners_of};
 
 use crate::point::{Corners, Point, Way};
 use crate::triangle::Triangle;

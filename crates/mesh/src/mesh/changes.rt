@@ -25,7 +25,7 @@ impl Mesh {
         Ok(Mesh { order, present })
     }
 
-    // Makes the mesh the two roots of a square of this order.
+    // Makes the mesh the two roots of a square of this order. (The order is a raw number, since a script hands it in.)
     pub fn reset(&mut self, order: u8) -> Result<(), OrderFault>
         ensures { outcome (told (λ _. done) order_refusal result) (state_of self.new) ≡ reset_call (state_of self.old) order }
     {

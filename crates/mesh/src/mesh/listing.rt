@@ -1,9 +1,8 @@
 // The index list of a mesh, for the graphics card: three vertex numbers a triangle.
 ghost use Rattle.std.specs.Prelude.{◌≡◌, ◌*◌, ◌≤◌, length};
 ghost use Rattle.bintree.specs.Orders.{side as side_of};
-ghost use Rattle.bintree.specs.Triangles.{corners as corners_of};
 ghost use Rattle.bintree.specs.Refusals.{told};
-ghost use Rattle.bintree.specs.Views.{order_value, order_of as triangle_order, number_of};
+ghost use Rattle.bintree.specs.Views.{order_value, order_of as triangle_order, corners_of};
 ghost use Rattle.mesh.specs.Sets.{count as count_of};
 ghost use Rattle.mesh.specs.Faults.{list_refusal};
 ghost use Rattle.mesh.specs.IndexList.{vertex as vertex_of, vertices as vertices_of, index_list as list_of, listing as listed, list_call};
@@ -26,7 +25,7 @@ fn vertex(order: Order, p: Point) -> u16
 
 // The vertices of t: apex, left, right.
 fn vertices(t: Triangle) -> [u16; 3]
-    ensures { result ≡ vertices_of (triangle_order t) (corners_of (triangle_order t) (number_of t)) }
+    ensures { result ≡ vertices_of (triangle_order t) (corners_of t) }
 {
     let order = t.order();
     let corners = t.corners();
@@ -52,7 +51,8 @@ impl Mesh {
         }
     }
 
-    // Lists the triangles by rising number, three vertex numbers each: apex, left, right. The answer is how many triangles there are.
+    // Lists the triangles by rising number, three vertex numbers each: apex, left, right. The answer is how many triangles there are, since
+    // the buffer is the caller's and may have more places.
     pub fn index_list(&self, buffer: &mut [u16]) -> Result<usize, ListFault>
         ensures { listed (told (λ k. k) list_refusal result) buffer.new ≡ list_call (order_of self.now) (triangles_of self.now) buffer.old }
     {

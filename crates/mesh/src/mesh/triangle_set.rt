@@ -1,7 +1,5 @@
 // Sets of triangles by their numbers, and what splits and merges do to them.
-ghost use Rattle.std.specs.Prelude.{◌≡◌, ◌<◌, MatchOption, vec_len};
-ghost use Rattle.bintree.specs.Triangles.{partner};
-ghost use Rattle.bintree.specs.Views.{order_of, number_of};
+ghost use Rattle.std.specs.Prelude.{◌≡◌, vec_len};
 
 use bintree::order::Order;
 use bintree::triangle::Triangle;

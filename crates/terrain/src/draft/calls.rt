@@ -26,7 +26,7 @@ impl Draft {
         })
     }
 
-    // Makes this a draft of the given order with all heights 0; or refusal 7, and nothing changes.
+    // Makes this a draft of the given order with all heights 0; or refusal 7, and nothing changes. (The order is a raw number, since a script hands it in.)
     pub fn reset(&mut self, order: u8) -> Result<(), OrderFault>
         ensures { Does (resetting order) order_refusal result (draft_view self.old) (draft_view self.new) }
     {
@@ -36,7 +36,7 @@ impl Draft {
         Ok(())
     }
 
-    // Sets the height of one sample; or refusal 8, and nothing changes.
+    // Sets the height of one sample; or refusal 8, and nothing changes. (A sample and its height are two things to whoever hands them in.)
     pub fn set(&mut self, p: Point, z: u16) -> Result<(), PointFault>
         ensures { Does (setting p z (draft_view self.old)) point_refusal result (draft_view self.old) (draft_view self.new) }
     {

@@ -12,7 +12,8 @@ use crate::table::places::place;
 use bintree::order::Order;
 use bintree::point::Point;
 
-// Samples and triangles are counted by their coordinates and numbers, in which a source is asked: their places in memory follow.
+// Samples and triangles are counted by their coordinates and numbers, in which a source is asked: their places in memory follow. (The table keeps its lengths, but a
+// slice that it lends has to have them asked for.)
 fn fill_heights<S: Relief>(rows: &mut [u16], order: Order, source: &S)
     requires { length rows.old ≡ 4225 }
     ensures { heights_in (order_value order) rows.new ≡ sampled (order_value order) (S.heights source.now) }

@@ -1,11 +1,11 @@
 // What a draft or a map has its table do.
-ghost use Rattle.std.specs.Prelude.{◌≡◌, ℕ, ◌≤◌, slice_index, replicate, IfOk};
+ghost use Rattle.std.specs.Prelude.{◌≡◌, ℕ, ◌≤◌, slice_index, IfOk};
 ghost use Rattle.bintree.specs.Views.{order_value};
 ghost use Rattle.terrain.specs.Bounds.{WithinLimit, measured};
 ghost use Rattle.terrain.specs.Grounds.{blank, measuring, carving, bound_of, Does};
 ghost use Rattle.terrain.specs.Laws.{MeasureLaws};
 ghost use Rattle.terrain.specs.Refusals.{carve_refusal};
-ghost use Rattle.terrain.specs.Tables.{heights_in, bounds_in};
+ghost use Rattle.terrain.specs.Tables.{bounds_in};
 ghost use Rattle.terrain.specs.Views.{table_view, sketch_view};
 ghost use Rattle.terrain.specs.Working.{new_bounds, NamesPassing};
 

@@ -25,9 +25,9 @@ tested g c =
     let h = MatchOption-at_some _ _ _ c.unwrap.ensures c.halves.ensures in
     rule_read n z b i _ _ _ _ c.requires.low c.requires.high
     (c.bound-bound.ensures ∙ sym (bounding_splittable n b i c.requires.low c.requires.high))
-    (c.bound_of.ensures ∙ ap₂ (λ (m j : ℕ). bounding m b j) (h.1.0 ∙ k.order) (h.1.1 ∙ ap (λ (j : ℕ). 2 * j) k.number))
-    (c.bound_of-2.ensures ∙ ap₂ (λ (m j : ℕ). bounding m b j) (h.2.0 ∙ k.order) (h.2.1 ∙ ap (λ (j : ℕ). 2 * j + 1) k.number))
-    (c.offset.ensures.value ∙ ap₂ (λ (m j : ℕ). offset m (sampled m z) j) k.order k.number)
+    (c.bound_of.ensures ∙ ap₂ (λ (m j : ℕ). bounding m b j) (h.1.0 ∙ k.0) (h.1.1 ∙ ap (λ (j : ℕ). 2 * j) k.1))
+    (c.bound_of-2.ensures ∙ ap₂ (λ (m j : ℕ). bounding m b j) (h.2.0 ∙ k.0) (h.2.1 ∙ ap (λ (j : ℕ). 2 * j + 1) k.1))
+    (c.offset.ensures.value ∙ ap₂ (λ (m j : ℕ). offset m (sampled m z) j) k.0 k.1)
 
 pub returns-then-bound-gt-LIMIT : goal.returns-then-bound-gt-LIMIT
 returns-then-bound-gt-LIMIT g c =

@@ -21,8 +21,8 @@ returns c =
     let n = c.args.order.n in
     let zs = c.args.self.now.heights.now in
     let bs = c.args.self.now.bounds.now in
-    let low = settles_as c.args.around _ n zs bs _ _ _ 2 _ _ c.triangle.ensures.order c.triangle.ensures.number c.settle-low.ensures in
-    let high = settles_as c.args.around _ n zs bs _ _ _ 3 _ _ c.triangle-2.ensures.order c.triangle-2.ensures.number c.settle-high.ensures in
+    let low = settles_as c.args.around _ n zs bs _ _ _ 2 _ _ c.triangle.ensures.0 c.triangle.ensures.1 c.settle-low.ensures in
+    let high = settles_as c.args.around _ n zs bs _ _ _ 3 _ _ c.triangle-2.ensures.0 c.triangle-2.ensures.1 c.settle-high.ensures in
     let start = ap (bounds_in n) c.copy_from_slice.ensures.after in
     let best = higher _ _ _ c.max.ensures in
     record {
