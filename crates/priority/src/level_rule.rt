@@ -15,7 +15,7 @@ pub struct LevelRule {
 }
 
 impl LevelRule {
-    // The rule for an order, or refusal 7. (The order is a raw number, since a script hands it in.)
+    // The rule for an order, or refusal 7. (The order is a raw number, since a studio hands it in.)
     pub fn new(order: u8) -> Result<LevelRule, OrderFault>
         ensures { told (λ p. order_value p.order) order_refusal result ≡ ordering order }
     {
