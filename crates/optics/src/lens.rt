@@ -97,12 +97,14 @@ impl Lens {
         ensures value { result ≡ distance_of self.eye b }
         ensures bound { result < 2 ^ 40 }
     {
-        let Some(eye) = self.eye else {
-            return 0;
-        };
-        let across = gap(eye.x, b.low.x, b.high.x);
-        let along = gap(eye.y, b.low.y, b.high.y);
-        across.max(along)
+        match self.eye {
+            Some(eye) => {
+                let across = gap(eye.x, b.low.x, b.high.x);
+                let along = gap(eye.y, b.low.y, b.high.y);
+                across.max(along)
+            }
+            None => 0,
+        }
     }
 
     // What a bound on the triangle comes to through this lens: times the focal length, over the distance and one spacing; 4,294,967,295 at most.
