@@ -7,7 +7,7 @@ ghost use Rattle.baked.specs.Faults.{file_refusal};
 ghost use Rattle.baked.specs.Reading.{reading, loading};
 ghost use Rattle.baked.specs.Laws.{FileLaws};
 
-use crate::fault::{FileFault, SectionsFault};
+use crate::fault::FileFault;
 use crate::sections::Sections;
 use crate::trailer::Trailer;
 use terrain::map::Map;
@@ -43,7 +43,6 @@ impl<'a> Reader<'a> {
         ensures laws { FileLaws (file_of self.now) }
     {
         let sections = self.sections()?;
-        sections.load(map).map_err(SectionsFault::from)?;
-        Ok(())
+        Ok(sections.load(map)?)
     }
 }

@@ -2,13 +2,16 @@
 ghost use Rattle.std.specs.Prelude.{◌≡◌};
 ghost use Rattle.bintree.specs.Refusals.{told};
 ghost use Rattle.bintree.specs.Views.{order_value};
+ghost use Rattle.terrain.specs.Grounds.{Does};
+ghost use Rattle.terrain.specs.Views.{map_view};
 ghost use Rattle.baked.specs.Faults.{sections_refusal, section_number};
 ghost use Rattle.baked.specs.Format.{heights_length, bounds_length};
-ghost use Rattle.baked.specs.Reading.{locating, reading_sections};
+ghost use Rattle.baked.specs.Reading.{locating, reading_sections, reading_table};
 
 use crate::fault::{SectionName, SectionsFault};
 use crate::trailer::Trailer;
 use bintree::order::Order;
+use terrain::map::Map;
 
 // A section of a file: a part of the file's own bytes, and its place there.
 #[derive(Clone, Copy)]
@@ -90,5 +93,12 @@ impl<'a> Sections<'a> {
             heights,
             bounds,
         })
+    }
+
+    // Fills a map with what the sections hold; or refusal 6.
+    pub(crate) fn load(&self, map: &mut Map) -> Result<(), SectionsFault>
+        ensures { Does (reading_table (sections_view self.now)) sections_refusal result (map_view map.old) (map_view map.new) }
+    {
+        Ok(self.load_table(map)?)
     }
 }

@@ -33,8 +33,8 @@ impl Relief for Sections<'_> {
 }
 
 impl Sections<'_> {
-    // Fills a map with the heights and the bounds; or refusal 6.
-    pub(crate) fn load(&self, map: &mut Map) -> Result<(), TableFault>
+    // Fills a map with the table of heights and bounds; or refusal 6.
+    pub(crate) fn load_table(&self, map: &mut Map) -> Result<(), TableFault>
         ensures { Does (reading_table (sections_view self.now)) table_refusal result (map_view map.old) (map_view map.new) }
     {
         Ok(map.fill(self.order, self)?)
