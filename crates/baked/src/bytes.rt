@@ -7,8 +7,10 @@ pub(crate) fn bytes_at<const N: usize>(bytes: &[u8], at: usize) -> [u8; N]
     ensures { (i : ℕ) → i < N → slice_index result i ≡ u8_at bytes.now (at + i) }
 {
     let rest = &bytes[at.min(bytes.len())..];
-    let present = rest.len().min(N);
+    if let Some(whole) = rest.first_chunk() {
+        return *whole;
+    }
     let mut held = [0; N];
-    held[..present].copy_from_slice(&rest[..present]);
+    held[..rest.len()].copy_from_slice(rest);
     held
 }

@@ -95,7 +95,7 @@ impl fmt::Display for SectionsFault {
         match self {
             SectionsFault::Distance(section) => write!(f, "refused 4 section {section}"),
             SectionsFault::Overlap => write!(f, "refused 5"),
-            SectionsFault::Table(fault) => write!(f, "{fault}"),
+            SectionsFault::Table(table) => write!(f, "{table}"),
         }
     }
 }
@@ -107,8 +107,8 @@ impl fmt::Display for FileFault {
 
     fn fmt<W: fmt::Write>(&self, f: &mut fmt::Formatter<W>) -> fmt::Result {
         match self {
-            FileFault::Trailer(fault) => write!(f, "{fault}"),
-            FileFault::Sections(fault) => write!(f, "{fault}"),
+            FileFault::Trailer(trailer) => write!(f, "{trailer}"),
+            FileFault::Sections(sections) => write!(f, "{sections}"),
         }
     }
 }

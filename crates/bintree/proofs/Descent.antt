@@ -47,7 +47,7 @@ unfolding neighbours
 neighbours_root zero p q = absurd (omega arith)
 neighbours_root (suc i) p q = sym (pick_root (suc i) _ q)
 
-neighbours_half : (i : ℕ) → 4 ≤ i → neighbours i ≡ around_half (eqb (i % 2) 0) i (neighbours (i / 2))
+pub neighbours_half : (i : ℕ) → 4 ≤ i → neighbours i ≡ around_half (eqb (i % 2) 0) i (neighbours (i / 2))
 unfolding neighbours
 neighbours_half zero h = absurd (omega arith)
 neighbours_half (suc k) h = pick_half (suc k) _ h ∙ ap (around_half (eqb (suc k % 2) 0) (suc k)) (fuel k (suc k / 2) (suc k / 2) (omega arith) (omega arith))

@@ -15,3 +15,4 @@ pub mod Bridge
 pub mod Laws
 pub mod Levels
 pub mod Descent
+pub mod Digits

@@ -6,7 +6,7 @@ use std::alloc::AllocError;
 use terrain::fault::{CarveFault, PointFault};
 use thiserror::Error;
 
-#[derive(Debug, Drop, Error)]
+#[derive(Clone, Copy, Debug, Error)]
 pub enum Refusal<'a> {
     #[error("line {0}: not understood")]
     NotUnderstood(usize),
