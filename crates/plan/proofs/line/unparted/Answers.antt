@@ -1,4 +1,4 @@
-use Rattle.std.proofs.Common.{◌≡◌, Bool, true, false, not, ◌||◌, List, [], ◌∷◌, ap, ◌∙◌, rules}
+use Rattle.std.proofs.Common.{◌≡◌, Bool, true, false, not, ◌||◌, List, [], ◌∷◌, ap, ◌∙◌, rules, arith}
 use Rattle.std.specs.List.{list_all, list_any}
 use Rattle.std.proofs.lemmas.Iterator.{YieldsList-from_slice}
 use Rattle.std.proofs.lemmas.Iterator.Search.{any_from_yields_List}
@@ -36,6 +36,7 @@ module _ (a b : Point) (t : Corners) where
   unfolding meets
   in_turn = grind rules
 
+-- (that the third way is the way back is found and not named, so that an edit is refused for the way that it takes and not for its form)
 pub returns : goal.returns
 returns c =
     let a = c.args.line.from in
@@ -49,6 +50,6 @@ returns c =
     ] in
     let left : c.if-beyond.result ≡ (c.if-cut_off.value || corners_beyond (way b a) t) = elim c.if-beyond.branch [
       | then-beyond w ↦ either_first _ _ _ w.result-is w.if-beyond.true
-      | else-beyond w ↦ either_second _ _ _ _ w.result-is w.if-beyond.false (w.beyond-else-beyond.ensures ∙ ap (λ (u : Way). corners_beyond u t) w.back.ensures)
+      | else-beyond w ↦ either_second _ _ _ _ w.result-is w.if-beyond.false (w.beyond-else-beyond.ensures ∙ ap (λ (u : Way). corners_beyond u t) (grind arith))
     ] in
     ap not (left ∙ ap (λ (v : Bool). v || corners_beyond (way b a) t) (right ∙ ap (λ (v : Bool). v || corners_beyond (way a b) t) cut)) ∙ in_turn a b t
